@@ -1,3 +1,5 @@
 pub mod Faults
 pub mod Image
 pub mod Log
+pub mod Memory
+pub mod MemoryText

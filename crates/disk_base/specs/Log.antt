@@ -6,12 +6,12 @@ use Rattle.disk_base.specs.declared.device.Ask.{Ask}
 use Rattle.disk_base.specs.Faults.{counted}
 
 pub record Log : Type 0 where
-  pub name : List ℕ                    -- its own name
-  pub asks : ℕ                         -- how often it was asked to attach, since it was made
-  pub last : Option Ask                -- the last of these
-  pub greatest : ℕ                     -- the greatest Create asked for, in sectors; 0 where there was none
-  pub discarded : List (ℕ × ℕ)         -- the runs of sectors given up since the last ask
-  pub writes : ℕ                       -- how many calls of `write` came since the last ask
+  pub name : List ℕ  -- its own name
+  pub asks : ℕ  -- how often it was asked to attach, since it was made
+  pub last : Option Ask  -- the last of these
+  pub greatest : ℕ  -- the greatest Create asked for, in sectors; 0 where there was none
+  pub discarded : List (ℕ × ℕ)  -- the runs of sectors given up since the last ask
+  pub writes : ℕ  -- how many calls of `write` came since the last ask
 
 -- a disk that nobody asked for yet
 abbrev pub fresh : List ℕ → Log

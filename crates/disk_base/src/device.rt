@@ -47,9 +47,13 @@ pub struct Ask {
 /// relates an earlier state of the object to a later one between which it was only read.
 pub trait Blocks {
     ghost tells: { Bool };
+
     ghost image: { Self → List ℕ };
+
     ghost size: { Self → ℕ };
+
     ghost faults: { Self → ℕ };
+
     ghost only_read: { Self → Self → Type 0 };
 
     /// The number of sectors.
@@ -65,11 +69,17 @@ pub trait Blocks {
         ensures cause { HasCause (faults self.old) (faults self.new) result };
 
     ghost read_nothing: { (d : Self) → only_read d d };
+
     ghost read_on: { (a b c : Self) → only_read a b → only_read b c → only_read a c };
+
     ghost same_size: { (a b : Self) → only_read a b → size b ≡ size a };
+
     ghost same_image: { (a b : Self) → only_read a b → IsTrue tells → image b ≡ image a };
+
     ghost whole: { (d : Self) → IsTrue tells → length (image d) ≡ 512 * size d };
+
     ghost no_fewer: { (a b : Self) → only_read a b → faults a ≤ faults b };
+
     ghost last_count: { (d : Self) → faults d ≤ 2 ^ 64 - 1 };
 }
 
@@ -82,7 +92,9 @@ pub trait Disk: Blocks {
     ghost use Rattle.disk_base.specs.Log.{Log, Asked, IsWritable, Keeps, IsBlank, HasSectors, written, gave_up};
 
     ghost log: { Self → Log };
+
     ghost attached: { Self → Option Mode };
+
     ghost discards: { Self → Bool };
 
     /// Attaches the disk of that name. After `Failed` nothing is attached; by `Read` and `Change` the disk
@@ -140,7 +152,10 @@ pub trait Disk: Blocks {
         ensures { result ≡ discards self.now };
 
     ghost same_log: { (a b : Self) → Self.only_read a b → IsTrue Self.tells → log b ≡ log a };
+
     ghost same_mode: { (a b : Self) → Self.only_read a b → attached b ≡ attached a };
+
     ghost same_discards: { (a b : Self) → Self.only_read a b → discards b ≡ discards a };
+
     ghost empty: { (d : Self) → Self.tells ≡ false → attached d ≡ None → Self.size d ≡ 0 };
 }

@@ -11,9 +11,15 @@
 
 mod collections;
 mod device;
+mod memory;
+mod memory_sink;
 mod output;
 
 pub use collections::{List, Name};
 pub use device::{Ask, Blocks, DeviceFault, Disk, Failed, Mode, SECTOR};
+pub use memory::{MemDisk, MemLimits};
+pub use memory_sink::MemSink;
 pub use output::Sink;
 
+#[cfg(test)]
+mod tests;

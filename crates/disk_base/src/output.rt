@@ -10,7 +10,9 @@ use crate::device::Failed;
 /// never falls.
 pub trait Sink {
     ghost tells_text: { Bool };
+
     ghost text: { Self → List ℕ };
+
     ghost sink_faults: { Self → ℕ };
 
     /// Appends all of `bytes`. After `Failed` a prefix of them is appended.
