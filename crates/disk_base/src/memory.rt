@@ -308,8 +308,8 @@ impl Disk for MemDisk {
         self.writes = self.writes.saturating_add(1);
         self.begin(Call::Write(at, bytes.len()), bytes.len(), true)?;
         self.written.extend_from_slice(bytes).unwrap();
-        let from = SECTOR * at as usize;
-        self.bytes[from..from + bytes.len()].copy_from_slice(bytes);
+        let start = SECTOR * at as usize;
+        self.bytes[start..start + bytes.len()].copy_from_slice(bytes);
         Ok(())
     }
 
@@ -333,8 +333,9 @@ impl Disk for MemDisk {
     {
         self.begin(Call::Discard(at, n), 0, true)?;
         self.discarded.push((at, n)).unwrap();
-        let from = SECTOR * at as usize;
-        self.bytes[from..from + SECTOR * n as usize].fill(DISCARDED);
+        let first = SECTOR * at as usize;
+        let end = first + SECTOR * n as usize;
+        self.bytes[first..end].fill(DISCARDED);
         Ok(())
     }
 
