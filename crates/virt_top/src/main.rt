@@ -1,0 +1,13 @@
+//! virt-resize and virt-sparsify.
+#![tactic(auto)]
+
+mod files;
+mod streams;
+
+use files::FileDisk;
+use streams::StdSink;
+
+fn main(rt: HostRuntime) {
+    let _source = FileDisk::new(&rt);
+    let _out = StdSink::new(rt.stdout());
+}
