@@ -1,13 +1,12 @@
 -- An entry that was written is read as its slot.
-use Rattle.std.proofs.Common.{◌≡◌, ℕ, suc, ◌+◌, ◌*◌, ◌^◌, ◌<◌, ◌≤◌, Bool, true, false, not, cond, ◌&&◌, ◌||◌, nat_eq, nat_lt, List, [], ◌∷◌, ◌++◌, length, replicate, map, refl, sym, ap, ◌∙◌, arith, eq-eqb, inl, inr}
-use Rattle.std.specs.List.{list_any, flat_map}
-use Rattle.std.proofs.lemmas.List.{length-append, take-map, get_or-map, get_or_past, length-map}
+use Rattle.std.proofs.Common.{◌≡◌, ℕ, ◌^◌, ◌<◌, ◌≤◌, Bool, true, false, cond, ◌&&◌, ◌||◌, nat_eq, nat_lt, List, [], ◌∷◌, ◌++◌, length, replicate, map, refl, ap, ◌∙◌, arith, eq-eqb, inl, inr}
+use Rattle.std.specs.List.{list_any}
 use Rattle.std.proofs.lemmas.Bool.{cases_lt, lt-ltb}
 use Rattle.std.proofs.Math.Bool.{or-true}
 use Rattle.byteorder.specs.Endian.{little_number, little_bytes}
 use Rattle.byteorder.specs.Numbers.{little_number-reads_back}
 use Rattle.mbr_table.specs.declared.slot.Slot.{Slot}
-use Rattle.mbr_table.specs.Slot.{slot_of, empty_slot, is_used, is_extended, holds_extended, end_of, is_bad, IsBadEntry, kept, entry_of}
+use Rattle.mbr_table.specs.Slot.{slot_of, empty_slot, is_used, is_extended, holds_extended, end_of, is_bad, kept, entry_of}
 
 -- an entry has 16 bytes
 pub length-entry_of : (slot : Slot) → length (entry_of slot) ≡ 16

@@ -1,11 +1,11 @@
 -- A sector that was written for a head and slots is read as their table.
-use Rattle.std.proofs.Common.{◌≡◌, ℕ, suc, ◌+◌, ◌^◌, ◌<◌, ◌≤◌, true, List, [], ◌∷◌, ◌++◌, length, take, drop, map, get_or, refl, sym, ap, subst, ◌∙◌, append_assoc, arith, add-zero}
+use Rattle.std.proofs.Common.{◌≡◌, ℕ, suc, ◌^◌, ◌<◌, ◌≤◌, true, List, [], ◌∷◌, ◌++◌, length, take, drop, map, get_or, refl, sym, ap, ◌∙◌, append_assoc, arith, add-zero}
 use Rattle.std.specs.List.{list_any}
 use Rattle.std.proofs.lemmas.List.{length-append, append-nil, take_at, drop_at, take-map, get_or-map, get_or-drop, length-map}
 use Rattle.disk_base.specs.Image.{bytes_at}
 use Rattle.mbr_table.specs.declared.slot.Slot.{Slot}
 use Rattle.mbr_table.specs.Slot.{slot_of, empty_slot, kept, entry_of, end_of, is_used, holds_extended, is_bad}
-use Rattle.mbr_table.specs.Mbr.{Table, HasSignature, slots_of, IsSound, IsSectorTable, mbr_sector_of, table_of, ReadsBack}
+use Rattle.mbr_table.specs.Mbr.{HasSignature, IsSound, IsSectorTable, mbr_sector_of, table_of, ReadsBack}
 use Rattle.mbr_table.proofs.Entries.{length-entry_of, kept-is_bad, any-kept, entry_read_back, good_bounds}
 
 -- a part is found behind what stands before it

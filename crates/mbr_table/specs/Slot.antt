@@ -1,5 +1,5 @@
 -- A slot of the table: what its entry of 16 bytes says, and when an entry is bad.
-use Rattle.std.specs.Prelude.{◌≡◌, ℕ, ◌+◌, ◌*◌, Bool, not, ◌&&◌, ◌||◌, ◌==◌, nat_lt, IsTrue, cond, if◌then◌else◌, List, [], ◌∷◌, ◌++◌, take, drop, replicate, slice_index, slice_index_or}
+use Rattle.std.specs.Prelude.{ℕ, ◌+◌, Bool, not, ◌&&◌, ◌||◌, ◌==◌, nat_lt, IsTrue, if◌then◌else◌, List, [], ◌∷◌, ◌++◌, take, drop, replicate, slice_index, slice_index_or}
 use Rattle.std.specs.List.{list_any}
 use Rattle.byteorder.specs.Endian.{little_number, little_bytes}
 use Rattle.mbr_table.specs.declared.slot.Slot.{Slot}

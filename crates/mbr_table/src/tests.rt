@@ -1,4 +1,4 @@
-ghost use Rattle.std.specs.Prelude.{◌≡◌, ℕ, ◌-◌, ◌*◌, ◌^◌, ◌≤◌, length, Bool, false, List, [], refl};
+ghost use Rattle.std.specs.Prelude.{◌≡◌, ℕ, ◌-◌, ◌*◌, ◌^◌, ◌<◌, ◌≤◌, length, Bool, false, List, [], refl};
 ghost use Rattle.std.proofs.Common.{◌∙◌};
 ghost use Rattle.std.proofs.Math.Nat.{le_refl};
 ghost use Rattle.std.proofs.lemmas.Bool.{false≢true};
@@ -88,15 +88,21 @@ fn sector_of(slots: &[Slot; 4]) -> [u8; 512] {
     sector
 }
 
-fn read_small(alloc: Global, sectors: u64, sector: [u8; 512]) -> Result<Mbr, MbrFault> {
+fn read_small(alloc: Global, sectors: u16, sector: [u8; 512]) -> Result<Mbr, MbrFault> {
     read_mbr(
         alloc,
         &mut Small {
-            sectors,
+            sectors: u64::from(sectors),
             sector,
             fails: false,
         },
     )
+}
+
+fn entry_at(sector: &[u8; 512], i: usize) -> &[u8]
+    requires { i < 4 }
+{
+    &sector[446 + 16 * i..462 + 16 * i]
 }
 
 #[test]
@@ -110,18 +116,21 @@ fn writes_the_entries_of_slots(rt: HostRuntime) {
         0x00, 0xFE, 0xFF, 0xFF, 0x83, 0xFE, 0xFF, 0xFF, 0x00, 0x58, 0x00, 0x00, 0x00, 0xA8, 0x00,
         0x00,
     ];
-    assert_eq!(rt; &sector[..446], [7; 446].as_slice());
-    assert_eq!(rt; &sector[446..462], first.as_slice());
-    assert_eq!(rt; &sector[462..478], second.as_slice());
-    assert_eq!(rt; &sector[478..510], [0; 32].as_slice());
-    assert_eq!(rt; &sector[510..], [0x55, 0xAA].as_slice());
+    assert_eq!(rt; entry_at(&sector, 0), first.as_slice());
+    assert_eq!(rt; entry_at(&sector, 1), second.as_slice());
+    assert_eq!(rt; entry_at(&sector, 2), [0; 16].as_slice());
+    assert_eq!(rt; entry_at(&sector, 3), [0; 16].as_slice());
+    assert_eq!(rt;
+        (sector[0], sector[445], sector[510], sector[511]),
+        (7, 7, 0x55, 0xAA)
+    );
 }
 
 #[test]
 fn reads_tables(rt: HostRuntime) -> Result<(), Fail> {
-    let sound = [plain(2048, 20480), extended(22528, 43008), EMPTY, EMPTY];
+    let sound = [plain(2048, 20480), extended(22528, 43007), EMPTY, EMPTY];
     let sector = sector_of(&sound);
-    let table = read_small(rt.alloc(), 65536, sector)
+    let table = read_small(rt.alloc(), 65535, sector)
         .ok()
         .ok_or("the table is sound")?;
     assert_eq!(rt; table.head().as_slice(), [7; 446].as_slice());
@@ -133,22 +142,22 @@ fn reads_tables(rt: HostRuntime) -> Result<(), Fail> {
 
 #[test]
 fn says_why_there_is_no_table(rt: HostRuntime) {
-    let sound = sector_of(&[plain(2048, 20480), plain(22528, 43008), EMPTY, EMPTY]);
-    let past = sector_of(&[plain(2048, 63489), EMPTY, EMPTY, EMPTY]);
+    let sound = sector_of(&[plain(2048, 20480), plain(22528, 43007), EMPTY, EMPTY]);
+    let past = sector_of(&[plain(2048, 63488), EMPTY, EMPTY, EMPTY]);
     let at_zero = sector_of(&[plain(2048, 1), plain(0, 1), EMPTY, EMPTY]);
     let twice = sector_of(&[extended(1, 8), plain(9, 1), extended(10, 8), EMPTY]);
     let cases = [
         (0, sound, MbrFault::NoSignature),
-        (65536, [0; 512], MbrFault::NoSignature),
-        (65536, past, MbrFault::Entry { number: 1 }),
-        (65536, at_zero, MbrFault::Entry { number: 2 }),
-        (65536, twice, MbrFault::Entry { number: 3 }),
+        (65535, [0; 512], MbrFault::NoSignature),
+        (65535, past, MbrFault::Entry { number: 1 }),
+        (65535, at_zero, MbrFault::Entry { number: 2 }),
+        (65535, twice, MbrFault::Entry { number: 3 }),
     ];
     for (sectors, sector, fault) in cases {
         assert_eq!(rt; read_small(rt.alloc(), sectors, sector).err(), Some(fault));
     }
     let mut failing = Small {
-        sectors: 65536,
+        sectors: 65535,
         sector: sound,
         fails: true,
     };
@@ -164,12 +173,12 @@ fn knows_a_protective_table(rt: HostRuntime) {
         status: 0,
         kind: 0xEE,
         start: 1,
-        count: 65535,
+        count: 65534,
     };
     assert!(rt; is_protective(&sector_of(&[protective, EMPTY, EMPTY, EMPTY])));
     assert!(rt; !is_protective(&[0; 512]));
     assert!(rt; protective.is_used() && !protective.is_extended());
-    assert_eq!(rt; protective.end(), 65536);
+    assert_eq!(rt; protective.end(), 65535);
 }
 
 #[test]

@@ -5,6 +5,9 @@ ghost use Rattle.mbr_table.specs.Mbr.{IsSectorTable, IsSound, ReadsBack, mbr_sec
 
 use crate::slot::Slot;
 
+/// What stands in place of an address by cylinder, head and sector.
+const NO_ADDRESS: [u8; 3] = [0xFE, 0xFF, 0xFF];
+
 /// The entry of a slot.
 fn entry(slot: &Slot) -> [u8; 16]
     ensures bytes { result ≡ entry_of slot.now }
@@ -13,26 +16,16 @@ fn entry(slot: &Slot) -> [u8; 16]
     if !slot.is_used() {
         return [0; 16];
     }
-    let start = slot.start.to_le_bytes();
-    let count = slot.count.to_le_bytes();
-    [
-        slot.status,
-        0xFE,
-        0xFF,
-        0xFF,
-        slot.kind,
-        0xFE,
-        0xFF,
-        0xFF,
-        start[0],
-        start[1],
-        start[2],
-        start[3],
-        count[0],
-        count[1],
-        count[2],
-        count[3],
-    ]
+    let Slot {
+        status,
+        kind,
+        start,
+        count,
+    } = *slot;
+    let [a, b, c] = NO_ADDRESS;
+    let [s, t, u, v] = start.to_le_bytes();
+    let [w, x, y, z] = count.to_le_bytes();
+    [status, a, b, c, kind, a, b, c, s, t, u, v, w, x, y, z]
 }
 
 /// Writes `bytes` from place `at` on, behind what stands before it.

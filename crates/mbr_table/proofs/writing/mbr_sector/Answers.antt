@@ -1,5 +1,5 @@
-use Rattle.std.proofs.Common.{arith, below_more, ◌≡◌, ◌<◌, length, subst, sym}
-use Rattle.mbr_table.specs.Mbr.{ReadsBack, mbr_sector_of}
+use Rattle.std.proofs.Common.{arith, below_more, ◌<◌, length, subst, sym}
+use Rattle.mbr_table.specs.Mbr.{ReadsBack}
 use Rattle.mbr_table.proofs.Steps.{written_more, back_here, written_all}
 use Rattle.mbr_table.proofs.Tables.{sector_reads_back, table_read_back}
 use Rattle.mbr_table.proofs.writing.mbr_sector.Goals as goal
