@@ -1,1 +1,9 @@
--- No definition stands yet.
+pub mod Alignment
+pub mod Tables
+pub mod Size
+pub mod Wishes
+pub mod Faults
+pub mod Layouts
+pub mod Plans
+pub mod Refusals
+pub mod Served

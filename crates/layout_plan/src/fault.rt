@@ -1,5 +1,9 @@
 //! Why there is no plan.
 
+ghost use Rattle.std.specs.Prelude.{◌≡◌};
+ghost use Rattle.layout_plan.specs.declared.fault.NoPlan.TheVariants.{Memory};
+
+use std::alloc::AllocError;
 use thiserror::Error;
 
 /// Why there is no plan. Sectors and ends are in sectors of the target; `part` is a number in the source,
@@ -62,4 +66,12 @@ pub enum NoPlan {
     /// Memory was refused.
     #[error("Memory")]
     Memory,
+}
+
+impl From<AllocError> for NoPlan {
+    ghost from_gives = { λ _ fault. fault ≡ Memory };
+
+    fn from(_error: AllocError) -> NoPlan {
+        NoPlan::Memory
+    }
 }

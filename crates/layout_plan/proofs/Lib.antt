@@ -1,0 +1,5 @@
+pub mod Next
+pub mod Lines
+pub mod Starts
+pub mod Slots
+pub mod Sound

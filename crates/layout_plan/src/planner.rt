@@ -1,0 +1,78 @@
+//! The plan of a job.
+ghost use Rattle.std.specs.Prelude.{◌≡◌, ℕ, ◌≤◌, ◌-◌, All, AllPairs, IfOk, IfErr, IfSome};
+ghost use Rattle.layout_plan.specs.Plans.{Apart, IsBehind, IsInside, IsPlan, IsSameOrder};
+ghost use Rattle.layout_plan.specs.Refusals.{HasNoPlan};
+ghost use Rattle.layout_plan.specs.Served.{IsServed};
+ghost use Rattle.layout_plan.specs.Tables.{least_disk, limit_of};
+
+use crate::extra::extra_part;
+use crate::fault::NoPlan;
+use crate::laying::lay;
+use crate::part::{Kind, Part};
+use crate::places::place;
+use crate::planned::Planned;
+use crate::wish::{Layout, Wish};
+use std::alloc::Global;
+
+/// The most sectors that a disk may have.
+const MOST_SECTORS: u64 = 2147483648;
+
+/// The sectors of the least disk that has a table.
+fn least_sectors(kind: Kind) -> u64
+    ensures { result ≡ least_disk kind }
+{
+    match kind {
+        Kind::Mbr => 2,
+        Kind::Gpt => 68,
+    }
+}
+
+/// The end of the last sector that a partition may take.
+fn limit(kind: Kind, sectors: u64) -> u64
+    requires { least_disk kind ≤ sectors }
+    ensures { result ≡ limit_of kind sectors }
+{
+    match kind {
+        Kind::Mbr => sectors,
+        Kind::Gpt => sectors - 33,
+    }
+}
+
+/// The plan for the parts on a target of `sectors` sectors, or why there is none.
+pub fn plan(
+    alloc: Global,
+    kind: Kind,
+    parts: &[Part],
+    wishes: &[Wish],
+    layout: &Layout,
+    sectors: u64,
+) -> Result<Planned, NoPlan>
+    requires served { IsServed kind parts.now wishes.now layout.now }
+    ensures plan { IfOk result (λ planned. IsPlan kind parts.now wishes.now layout.now sectors planned) }
+    ensures none { IfErr result (λ fault. HasNoPlan kind parts.now wishes.now layout.now sectors fault) }
+
+    // The partitions lie apart, behind the table and before the limit.
+    ensures same_order { IfOk result (λ planned. IsSameOrder parts.now planned.parts) }
+    ensures apart { IfOk result (λ planned. AllPairs Apart planned.parts) }
+    ensures inside { IfOk result (λ planned. All (IsInside planned.limit) planned.parts) }
+    ensures behind { IfOk result (λ planned. IfSome planned.extra (IsBehind planned.parts planned.limit)) }
+    ensures limit { IfOk result (λ planned. planned.limit ≤ sectors) }
+{
+    if sectors < least_sectors(kind) {
+        return Err(NoPlan::TooSmall { sectors });
+    }
+    if sectors > MOST_SECTORS {
+        return Err(NoPlan::TooLarge { sectors });
+    }
+    let limit = limit(kind, sectors);
+    let laid = lay(alloc, kind, parts, layout)?;
+    if limit < laid.end {
+        return Err(NoPlan::DoesNotFit {
+            end: laid.end,
+            limit,
+        });
+    }
+    let placed = place(alloc, parts, &laid.parts, &laid.starts)?;
+    let extra = extra_part(kind, layout, &placed, laid.end, limit);
+    Ok(Planned::new(placed, extra, limit))
+}
