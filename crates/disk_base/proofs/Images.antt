@@ -1,6 +1,6 @@
 -- Facts about ranges of a disk and writes to it. A place is a variable with an equation, since `512 * (a + b)` and
 -- `512 * a + 512 * b` never match by computing.
-use Rattle.std.proofs.Common.{rules, ◌≡◌, ℕ, ◌+◌, ◌-◌, ◌*◌, ◌<◌, ◌≤◌, List, [], ◌++◌, length, take, drop, slice_index, arith, refl, append-nil, add-zero, ◌∙◌, sym, ap, get_or, ◌⊎◌, inl, inr}
+use Rattle.std.proofs.Common.{rules, ◌≡◌, ℕ, ◌+◌, ◌-◌, ◌*◌, ◌<◌, ◌≤◌, List, [], ◌++◌, length, take, drop, slice_index, arith, refl, append-nil, add-zero, ◌∙◌, sym, ap, get_or, min, length-take, length-drop, ◌⊎◌, inl, inr}
 use Rattle.std.proofs.lemmas.Grind.{same_number_lists}
 use Rattle.std.proofs.lemmas.List.{same_lists, places, take-append-drop}
 use Rattle.disk_base.specs.Image.{bytes_at, with_bytes, sector, AgreesOutside, OldOrNew, HalfWritten}
@@ -69,15 +69,17 @@ pub agrees_with_bytes : (image : List ℕ) (from n : ℕ) (bytes : List ℕ) →
     → AgreesOutside from n image (with_bytes image from bytes)
 agrees_with_bytes image from n bytes is fits = record { same_length = search (rules, places); before = λ i h. grind (arith, places); after = λ i h. grind (arith, places) }
 
+-- how long a range is, also one that passes the end
+pub length-range : (image : List ℕ) (at m : ℕ) → length (bytes_at image at m) ≡ min m (length image - at)
+length-range image at m = simp (length-take, length-drop)
+
 -- a change inside a range leaves each range that lies outside it
-pub bytes_outside : (old new : List ℕ) (from n at m : ℕ) → AgreesOutside from n old new → ((at + m ≤ from) ⊎ (from + n ≤ at)) → at + m ≤ length old
+pub bytes_outside : (old new : List ℕ) (from n at m : ℕ) → AgreesOutside from n old new → ((at + m ≤ from) ⊎ (from + n ≤ at))
     → bytes_at new at m ≡ bytes_at old at m
-bytes_outside old new from n at m agrees apart fits =
-    let same : length new ≡ length old = agrees.same_length in
-    let fits_new : at + m ≤ length new = omega arith in
-    same_number_lists _ _ (length-bytes_at new at m fits_new ∙ sym (length-bytes_at old at m fits))
+bytes_outside old new from n at m agrees apart =
+    same_number_lists _ _ (length-range new at m ∙ ap (λ l. min m (l - at)) agrees.same_length ∙ sym (length-range old at m))
     (λ i h.
-    let small : i < m = omega (arith, length-bytes_at new at m fits_new) in
+    let small : i < m = omega (arith, length-range new at m) in
     byte_of_range new at m i (at + i) refl small
     ∙ elim apart [ inl before ↦ agrees.before (at + i) (omega arith) | inr behind ↦ agrees.after (at + i) (omega arith) ]
     ∙ sym (byte_of_range old at m i (at + i) refl small))

@@ -1,0 +1,45 @@
+-- One more transfer: what it copied goes to the invariant by `transfer_more`.
+use Rattle.std.proofs.Common.{rules, ◌≡◌, ◌<◌, ◌≤◌, ◌^◌, List, ℕ, length, arith, ap, ◌∙◌, sym, subst, slice_index_or}
+use Rattle.std.proofs.lemmas.List.Elements.{All-get_or}
+use Rattle.disk_base.specs.Image.{AgreesOutside}
+use Rattle.resize_core.specs.declared.transfer.Transfer.{Transfer}
+use Rattle.resize_core.specs.Transfers.{IsBetween, IsCopied, OnlyWithin}
+use Rattle.resize_core.proofs.Copies.{nothing, transfer_more, begun_within, same_asks_on}
+use Rattle.resize_core.proofs.copying.copy_all.Goals as goal
+
+pub copy_run-requires-clause-between : goal.copy_run-requires-clause-between
+copy_run-requires-clause-between g c =
+    let before = c.loop-transfer.invariant in
+    let source_same : g.S.Blocks.size c.loop-transfer.source ≡ g.S.Blocks.size c.args.source.now = g.met.S.Blocks.same_size _ _ before.read in
+    let target_same : g.T.Blocks.size c.loop-transfer.target ≡ g.T.Blocks.size c.args.target.now = before.same_size in
+    let Between : Transfer → Type 0 = λ t. IsBetween (g.S.Blocks.size c.args.source.now) (g.T.Blocks.size c.args.target.now) t in
+    let here : Between (slice_index_or c.args.transfers.now c.loop-transfer.transfer-index nothing) =
+    All-get_or Between c.args.transfers.now c.loop-transfer.transfer-index nothing (omega arith) c.requires.between in
+    let few : g.S.Blocks.size c.args.source.now ≤ 2 ^ 31 = here.few_source in
+    record { few_source = omega arith; few_target = omega (arith, here.few_target); source = omega (arith, here.source); target = omega (arith, here.target) }
+
+pub returns-in_err-copy_run-clause-within : goal.returns-in_err-copy_run-clause-within
+returns-in_err-copy_run-clause-within g c = λ t.
+    begun_within c.args.transfers.now c.loop-transfer.transfer-index nothing _ _ _ (omega arith) (c.loop-transfer.invariant.others t) (c.in_err-copy_run.ensures.within t)
+
+pub loop-transfer-preserved : goal.loop-transfer-preserved
+loop-transfer-preserved g c =
+    let before = c.loop-transfer.invariant in
+    let now = c.in_ok-copy_run.ensures in
+    record {
+      read = g.met.S.Blocks.read_on _ _ _ before.read now.read;
+      bound = omega arith;
+      copied = λ s t.
+          let same = g.met.S.Blocks.same_image _ _ before.read s in
+          let Copied : List ℕ → Type 0 = λ image. IsCopied (slice_index_or c.args.transfers.now c.loop-transfer.transfer-index nothing)
+          (slice_index_or c.args.transfers.now c.loop-transfer.transfer-index nothing).count image
+          (g.T.Blocks.image c.loop-transfer.target) (g.T.Blocks.image c.copy_run.new.target) in
+          transfer_more c.args.transfers.now c.loop-transfer.transfer-index nothing (g.S.Blocks.image c.args.source.now)
+          (g.T.Blocks.image c.args.target.now) (g.T.Blocks.image c.loop-transfer.target) (g.T.Blocks.image c.copy_run.new.target)
+          (before.copied s t) (subst Copied same (now.copied s t)) c.requires.apart (omega arith);
+      others = λ t. begun_within c.args.transfers.now c.loop-transfer.transfer-index nothing _ _ _ (omega arith) (before.others t) (now.within t);
+      same_asks = λ t. same_asks_on _ _ _ (before.same_asks t) (now.asks t);
+      same_size = now.size ∙ before.same_size;
+      same_mode = now.mode ∙ before.same_mode;
+      no_fewer = omega (arith, now.later);
+    }

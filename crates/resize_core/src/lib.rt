@@ -1,0 +1,14 @@
+//! Copies a disk's partitions to where a plan places them.
+//!
+//! It promises upwards: [`prepare_mbr`] refuses exactly where two slots share a sector or no plan exists,
+//! and else makes [`Ready`], all that is to be written; [`carry_out`] then writes it, in an order that
+//! leaves sector 0 of the target as zeros until the rest stands. It takes no memory and answers Ok wherever
+//! no disk failed, and the target is then the finished one of `specs/Finished.antt`.
+//!
+//! It stands on disk_base for disks, on mbr_table for the table and on layout_plan for the plan.
+#![tactic(auto)]
+
+mod copying;
+mod transfer;
+
+pub use transfer::Transfer;
