@@ -1,11 +1,14 @@
 -- A sector that was written for a head and slots is read as their table.
-use Rattle.std.proofs.Common.{◌≡◌, ℕ, suc, ◌^◌, ◌<◌, ◌≤◌, true, List, [], ◌∷◌, ◌++◌, length, take, drop, map, get_or, refl, sym, ap, ◌∙◌, append_assoc, arith, add-zero}
+use Rattle.std.proofs.Common.{◌-◌, ◌⊎◌, inl, inr, subst, ◌≡◌, ℕ, suc, ◌^◌, ◌<◌, ◌≤◌, true, List, [], ◌∷◌, ◌++◌, length, take, drop, map, get_or, refl, sym, ap, ◌∙◌, append_assoc, arith, add-zero}
 use Rattle.std.specs.List.{list_any}
 use Rattle.std.proofs.lemmas.List.{length-append, append-nil, take_at, drop_at, take-map, get_or-map, get_or-drop, length-map}
-use Rattle.disk_base.specs.Image.{bytes_at}
+use Rattle.disk_base.specs.Image.{bytes_at, sector}
 use Rattle.mbr_table.specs.declared.slot.Slot.{Slot}
-use Rattle.mbr_table.specs.Slot.{slot_of, empty_slot, kept, entry_of, end_of, is_used, holds_extended, is_bad}
-use Rattle.mbr_table.specs.Mbr.{HasSignature, IsSound, IsSectorTable, mbr_sector_of, table_of, ReadsBack}
+use Rattle.mbr_table.specs.declared.slot.Logical.{Logical}
+use Rattle.mbr_table.specs.declared.fault.MbrFault.{MbrFault}
+use Rattle.mbr_table.specs.declared.fault.MbrFault.TheVariants.{NoSignature, Entry, Chain, TooMany, Device, Memory}
+use Rattle.mbr_table.specs.Slot.{slot_of, empty_slot, kept, entry_of, end_of, is_used, holds_extended, is_bad, IsBadEntry}
+use Rattle.mbr_table.specs.Mbr.{Table, HasSignature, IsSound, IsSectorTable, IsMbrTable, HasMbrFault, mbr_sector_of, table_of, ReadsBack}
 use Rattle.mbr_table.proofs.Entries.{length-entry_of, kept-is_bad, any-kept, entry_read_back, good_bounds}
 
 -- a part is found behind what stands before it
@@ -125,3 +128,29 @@ pub used_bounds : (sectors : ℕ) (slots : List Slot) (i : ℕ) → IsSound sect
     → (1 ≤ (get_or slots i empty_slot).start) × (end_of (get_or slots i empty_slot) ≤ sectors)
 used_bounds sectors slots i sound lt used =
     good_bounds sectors (list_any holds_extended (take i slots)) (get_or slots i empty_slot) used (sound.none_bad i lt)
+
+-- a disk whose sector 0 spells a table has that table
+pub table_on_disk : (sectors : ℕ) (image bytes : List ℕ) (table : Table) → sector image 0 ≡ bytes → IsSectorTable sectors bytes table → IsMbrTable sectors image table
+table_on_disk sectors image bytes table same is = subst (λ (b : List ℕ). IsSectorTable sectors b table) (sym same) is
+
+-- a disk has one table
+pub one_table : (sectors : ℕ) (image : List ℕ) (a b : Table) → IsMbrTable sectors image a → IsMbrTable sectors image b → a ≡ b
+one_table sectors image a b a-is b-is =
+    let head : a.head ≡ b.head = a-is.head ∙ sym b-is.head in
+    let slots : a.slots ≡ b.slots = a-is.slots ∙ sym b-is.slots in
+    let logicals : a.logicals ≡ b.logicals = a-is.logicals ∙ sym b-is.logicals in
+    let made : List ℕ → List Slot → List Logical → Table = λ h s l. record { head = h; slots = s; logicals = l } in
+    ap (λ (h : List ℕ). made h a.slots a.logicals) head ∙ ap (λ (s : List Slot). made b.head s a.logicals) slots ∙ ap (made b.head b.slots) logicals
+
+-- a disk with a table gives no reason to refuse it
+pub no_fault : (sectors : ℕ) (image : List ℕ) (table : Table) (fault : MbrFault) → IsMbrTable sectors image table → HasMbrFault sectors image fault → (fault ≡ Device) ⊎ (fault ≡ Memory)
+no_fault sectors image table NoSignature is (inl none) = absurd (omega (arith, is.some))
+no_fault sectors image table NoSignature is (inr unsigned) = absurd (unsigned is.signature)
+no_fault sectors image table (Entry number) is has =
+    let first = has.2 in
+    let bad : IsBadEntry sectors table.slots (number - 1) = subst (λ (s : List Slot). IsBadEntry sectors s (number - 1)) (sym is.slots) first.bad in
+    absurd (is.sound.none_bad (number - 1) (omega (arith, first.counted)) bad)
+no_fault sectors image table (Chain at) is has = absurd has
+no_fault sectors image table (TooMany at) is has = absurd has
+no_fault sectors image table Device is has = inl refl
+no_fault sectors image table Memory is has = inr refl

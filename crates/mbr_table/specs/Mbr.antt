@@ -24,7 +24,7 @@ abbrev pub slots_of : List ℕ → List Slot
 slots_of bytes =
     slot_of (bytes_at bytes 446 16) ∷ slot_of (bytes_at bytes 462 16) ∷ slot_of (bytes_at bytes 478 16) ∷ slot_of (bytes_at bytes 494 16) ∷ []
 
--- a slot of it stands in for another table
+-- it has the signature, and a slot that stands in for another table
 abbrev pub IsProtective : List ℕ → Type 0
 IsProtective bytes = HasSignature bytes × IsTrue (list_any stands_in (slots_of bytes))
 
@@ -74,7 +74,7 @@ mbr_sector_of head slots = head ++ flat_map entry_of slots ++ 0x55 ∷ 0xAA ∷ 
 abbrev pub table_of : List ℕ → List Slot → Table
 table_of head slots = record { head = head; slots = map kept slots; logicals = [] }
 
--- a sector of which that head and the used ones of these slots are read
+-- a sector that is read as that head and the used ones of these slots
 pub record ReadsBack (front : List ℕ) (written : List Slot) (bytes : List ℕ) : Type 0 where
   pub signature : HasSignature bytes
   pub head : bytes_at bytes 0 446 ≡ front

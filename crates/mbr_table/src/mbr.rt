@@ -109,7 +109,8 @@ fn table_in(alloc: Global, sectors: u64, sector: &[u8; SECTOR]) -> Result<Mbr, M
     })
 }
 
-/// The table of a disk. Of a disk without sectors nothing is read.
+/// The table of a disk, in sectors of 512 bytes. Of a disk without sectors nothing is read. After
+/// `Device` and `Memory` nothing is known of the table.
 pub fn read_mbr<B: Blocks>(alloc: Global, disk: &mut B) -> Result<Mbr, MbrFault>
     requires { B.size disk.old ≤ 2 ^ 31 }
     ensures read { B.only_read disk.old disk.new }
@@ -137,7 +138,8 @@ fn has_protective(slots: &[Slot]) -> bool
     slots.iter().any(|slot| slot.kind == PROTECTIVE)
 }
 
-/// Whether a sector has the signature and a slot of the type that stands in for another table.
+/// Whether a sector has the signature and a slot of the type that stands in for another table (UEFI
+/// specification, 5.2.3).
 pub fn is_protective(sector: &[u8; 512]) -> bool
     ensures { IsTrue result ↔ IsProtective sector.now }
 {

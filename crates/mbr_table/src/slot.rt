@@ -4,7 +4,8 @@ ghost use Rattle.mbr_table.specs.Slot.{slot_of, is_used, is_extended, holds_exte
 
 use byteorder::{ByteOrder, LittleEndian};
 
-/// One of the four slots. `kind` is the type byte, `start` its first sector and `count` how many it has.
+/// One of the four slots (UEFI specification, 5.2.1). `kind` is the type byte, `start` the first sector
+/// and `count` how many sectors it has.
 #[derive(Clone, Copy, Debug, PartialEq, Eq)]
 pub struct Slot {
     pub status: u8,
