@@ -67,7 +67,7 @@ fn copy_next<S: Blocks, T: Disk>(
 }
 
 // Copies the sectors of a transfer, in pieces.
-fn copy_run<S: Blocks, T: Disk>(
+pub(crate) fn copy_run<S: Blocks, T: Disk>(
     source: &mut S,
     target: &mut T,
     transfer: &Transfer,

@@ -8,7 +8,11 @@
 //! It stands on disk_base for disks, on mbr_table for the table and on layout_plan for the plan.
 #![tactic(auto)]
 
+mod carrying;
 mod copying;
+mod ready;
 mod transfer;
 
+pub use carrying::carry_out;
+pub use ready::Ready;
 pub use transfer::Transfer;

@@ -1,0 +1,37 @@
+//! The work that is ready to be carried out.
+ghost use Rattle.std.specs.Prelude.{◌≡◌};
+
+use crate::transfer::Transfer;
+use layout_plan::Planned;
+use std::marker::Model;
+
+/// All that is to be written to a target, made before the first write.
+#[derive(Debug, Drop)]
+pub struct Ready {
+    pub(crate) planned: Planned,
+    pub(crate) table: [u8; 512],
+    pub(crate) boot: u64,
+    pub(crate) transfers: Vec<Transfer>,
+    pub(crate) source_sectors: u64,
+    pub(crate) target_sectors: u64,
+}
+
+impl Model for Ready {
+    ghost use Rattle.resize_core.specs.Ready.{Work};
+    ghost use Rattle.resize_core.specs.Finished.{IsCarriable};
+
+    ghost Value = { Work };
+
+    ghost view = { λ r. record { plan = r.planned; table = r.table; boot = r.boot; transfers = r.transfers.items; source_sectors = r.source_sectors; target_sectors = r.target_sectors } };
+
+    ghost invariant = { λ r. IsCarriable r.source_sectors r.target_sectors r.boot r.transfers.items };
+}
+
+impl Ready {
+    /// Where the partitions come to stand.
+    pub fn plan(&self) -> &Planned
+        ensures { result.now ≡ self.now.plan }
+    {
+        &self.planned
+    }
+}
