@@ -117,6 +117,16 @@ last_ends_below runs last number rises is below k d within =
     let rise : end_of (get_or runs k d) ≤ end_of (get_or runs (length runs - 1) d) = ends_rise runs rises k (length runs - 1) d (omega arith) (omega arith) in
     omega arith
 
+pub last_starts_by : (runs : List Run) (last : Run) (number : ℕ) → AreRuns runs → slice_get runs (length runs - 1) ≡ Some last → last.start ≤ number → All (λ run. end_of run < number) (take (length runs - 1) runs)
+last_starts_by runs last number rises is starts k d within =
+    let n : length (take (length runs - 1) runs) ≡ length runs - 1 = length-take-le (length runs - 1) runs (omega arith) in
+    let lt : k < length runs - 1 = omega arith in
+    let found : Some last ≡ Some (get_or runs (length runs - 1) d) = sym is ∙ slice_get-get_or runs (length runs - 1) d (omega arith) in
+    let same : last ≡ get_or runs (length runs - 1) d = cc in
+    let start : last.start ≡ (get_or runs (length runs - 1) d).start = ap (λ (run : Run). run.start) same in
+    let apart : end_of (get_or runs k d) < (get_or runs (length runs - 1) d).start = RisesFrom-pairs 0 runs rises k (length runs - 1) d lt (omega arith) in
+    rw (get_or-take (length runs - 1) runs k d lt) (omega arith)
+
 pub all_below_place : (runs : List Run) (number i : ℕ) → i ≤ length runs → AllWithin (λ run. ltb (end_of run) number ≡ true) runs 0 i → All (λ run. end_of run < number) (take i runs)
 all_below_place runs number i le within k d lt =
     let n : length (take i runs) ≡ i = length-take-le i runs le in
@@ -167,3 +177,7 @@ has_at_place runs run at x has set within read below rest says = (
   λ yes. in_run runs run at x within (subst (λ (r : Run). IsWithin r.start r.count x) read (says.0 yes)),
   λ holds. says.1 (subst (λ (r : Run). IsWithin r.start r.count x) (sym read) (held_at_place runs run at x set within below rest holds)),
 )
+
+-- a run that is read at an index is a run
+pub run_read : (runs : List Run) (run : Run) (index : ℕ) → AreRuns runs → index < length runs → run ≡ get_or runs index run → IsRun run
+run_read runs run index set within read = subst IsRun (sym read) (RisesFrom-runs 0 runs set index run within)

@@ -102,7 +102,9 @@ impl Runs {
     /// The run at an index, in rising order: its first number, and how many numbers it has.
     pub fn get(&self, index: usize) -> (u64, u64)
         requires { index < length self.now }
-        ensures { HoldsAt (λ run. (result.0 ≡ run.start) × (result.1 ≡ run.count)) self.now index }
+        ensures run { HoldsAt (λ run. run ≡ record { start = result.0; count = result.1 }) self.now index }
+        ensures some { 1 ≤ result.1 }
+        ensures end { result.0 + result.1 ≤ 2 ^ 63 }
     {
         let run = self.runs[index];
         (run.start, run.count)
@@ -143,15 +145,4 @@ pub fn all_zero(bytes: &[u8]) -> bool
 }
 
 #[cfg(test)]
-mod tests {
-    use super::*;
-
-    // Each row: the runs to add, the runs to take away, the runs that are left, and how many numbers they have.
-    #[test]
-    fn keeps_the_fewest_runs(rt: HostRuntime) {
-        let mut set = Runs::new(rt.alloc());
-        assert_eq!(rt; set.add(10, 5), Ok(()));
-        assert_eq!(rt; set.add(15, 5), Ok(()));
-        assert_eq!(rt; set.count(), 1);
-    }
-}
+mod tests;

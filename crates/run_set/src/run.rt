@@ -31,17 +31,21 @@ impl Run {
     }
 }
 
-// The index of the first run that ends at the number or past it. The last run is looked at first, so a number past all runs is placed at once.
+// The index of the first run that ends at the number or past it.
+// The last run is looked at first, so that a number at the end of the runs is placed at once.
 pub(crate) fn place(runs: &[Run], number: u64) -> usize
     requires { AreRuns runs.now }
     ensures bound { result ≤ length runs.now }
     ensures below { All (λ run. end_of run < number) (take result runs.now) }
     ensures rest { All (λ run. number ≤ end_of run) (drop result runs.now) }
 {
-    if let Some(last) = runs.last()
-        && last.ends_below(number)
-    {
-        return runs.len();
+    if let Some(last) = runs.last() {
+        if last.ends_below(number) {
+            return runs.len();
+        }
+        if last.start <= number {
+            return runs.len() - 1;
+        }
     }
     runs.partition_point(|run| run.ends_below(number))
 }
