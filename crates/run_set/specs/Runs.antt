@@ -43,7 +43,11 @@ pub record IsLeastCommon (runs : List Run) (start : ℕ) (n : ℕ) (least : ℕ)
   pub common : IsCommon runs start n least
   pub none_below : (x : ℕ) → IsCommon runs start n x → least ≤ x
 
--- when an `add` of n numbers from start on to a set gives each fault; memory may be short at any call
+-- none of the n numbers from start on is held
+abbrev pub IsFree : List Run → ℕ → ℕ → Type 0
+IsFree runs start n = (x : ℕ) → Holds runs x → IsWithin start n x → ⊥
+
+-- when an `add` of n numbers from start on to a set gives each fault; memory is asked for only once the numbers are seen to be free
 abbrev pub HasFault : List Run → ℕ → ℕ → RunFault → Type 0
 HasFault runs start n (Overlap least) = IsLeastCommon runs start n least
-HasFault runs start n Memory = Unit {0}
+HasFault runs start n Memory = IsFree runs start n

@@ -8,7 +8,7 @@
 // `add` meets what is there, that a refused `add` changes nothing, and that the runs rise, lie
 // apart and don't touch. Want of memory is the one fault that no promise speaks of.
 //
-// It stands on the standard library alone.
+// It stands on the standard library, and on thiserror for the texts of its faults.
 #![tactic(auto)]
 
 mod cut;
@@ -18,7 +18,7 @@ mod run;
 
 ghost use Rattle.std.specs.Prelude.{◌≡◌, ◌+◌, ◌^◌, ◌<◌, ◌≤◌, ◌↔◌, ◌⊎◌, ℕ, [], All, AllPairs, IsTrue, OnOk, OnErr, IfOk, IfErr, length, sum_by};
 ghost use Rattle.std.specs.List.{HoldsAt};
-ghost use Rattle.run_set.specs.Runs.{IsWithin, IsRun, EndsBelow, Holds, HasFault, AreRuns, end_of};
+ghost use Rattle.run_set.specs.Runs.{IsWithin, IsRun, EndsBelow, Holds, HasFault, IsFree, AreRuns};
 
 use cut::cut;
 pub use fault::RunFault;
@@ -61,13 +61,14 @@ impl Runs {
     ///
     /// # Errors
     ///
-    /// `Overlap` where the set has some of them, with the least such number; then, and where memory runs out, the set stays as it was.
+    /// `Overlap` where the set has some of them, with the least such number, and `Memory` where it has none and memory runs out.
+    /// After either the set is as it was.
     pub fn add(&mut self, start: u64, n: u64) -> Result<(), RunFault>
         requires some { 1 ≤ n }
         requires end { start + n ≤ 2 ^ 63 }
 
         ensures added { OnOk result ((x : ℕ) → Holds self.new x ↔ (Holds self.old x ⊎ IsWithin start n x)) }
-        ensures free { OnOk result ((x : ℕ) → Holds self.old x → IsWithin start n x → ⊥) }
+        ensures free { OnOk result (IsFree self.old start n) }
 
         ensures fault { IfErr result (HasFault self.old start n) }
         ensures unchanged { OnErr result (self.new ≡ self.old) }
