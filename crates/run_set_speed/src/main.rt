@@ -4,9 +4,8 @@
 
 use run_set::{RunFault, Runs};
 use std::alloc::Global;
-use std::env;
-use std::io;
 use std::process::ExitCode;
+use std::{env, io};
 
 // The set of as many runs, each of two numbers with one left out after it.
 fn filled(alloc: Global, runs: u32) -> Result<Runs, RunFault> {
