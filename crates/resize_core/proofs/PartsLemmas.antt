@@ -1,0 +1,121 @@
+-- The partitions of a table's slots, slot by slot.
+use Rattle.std.proofs.lemmas.Bool.Decides.{nat_tests}
+use Rattle.std.proofs.lemmas.List.Elements.{All-cons, All-weaker}
+use Rattle.std.proofs.lemmas.List.Kept.{AllPairs-cons}
+use Rattle.std.proofs.Common.{rules, ◌≡◌, ℕ, ◌+◌, ◌-◌, ◌<◌, ◌≤◌, List, [], ◌∷◌, ◌++◌, length, take, arith, refl, ◌∙◌, sym, ap, Bool, true, false, slice_index_or, if◌then◌else◌, append_assoc, All, AllPairs, suc, nat_lt, ◌&&◌, ◌^◌, subst}
+use Rattle.layout_plan.specs.declared.part.Kind.TheVariants.{Mbr}
+use Rattle.layout_plan.specs.declared.part.Part.{Part}
+use Rattle.layout_plan.specs.Served.{IsServed, IsServedPart}
+use Rattle.mbr_table.specs.declared.slot.Slot.{Slot}
+use Rattle.mbr_table.specs.Mbr.{IsSound}
+use Rattle.mbr_table.specs.Slot.{is_used, empty_slot, end_of}
+use Rattle.mbr_table.proofs.Tables.{used_bounds}
+use Rattle.resize_core.specs.Targets.{plain_layout}
+use Rattle.resize_core.specs.Parts.{part_of, parts_of, parts_from, share, Meet, MeetsNone, MeetsFirst, LieApart}
+
+-- a part is that of a used slot, where the first slot has the number `first`
+pub record IsPartFrom (first : ℕ) (slots : List Slot) (part : Part) : Type 0 where
+  pub place : ℕ
+  pub within : place < length slots
+  pub used : is_used (slice_index_or slots place empty_slot) ≡ true
+  pub is : part ≡ part_of (first + place) (slice_index_or slots place empty_slot)
+
+-- a part of the later slots is one of all
+pub part_later : (first : ℕ) (one : Slot) (slots : List Slot) (part : Part) → IsPartFrom (first + 1) slots part → IsPartFrom first (one ∷ slots) part
+part_later first one slots part p = record {
+  place = suc p.place;
+  within = omega (arith, p.within);
+  used = p.used;
+  is = p.is ∙ ap (λ n. part_of n (slice_index_or slots p.place empty_slot)) (omega arith);
+}
+
+-- a part of the later slots has a greater number
+pub part_greater : (first number : ℕ) (one : Slot) (slots : List Slot) (part : Part) → number ≡ first → IsPartFrom (first + 1) slots part → (part_of number one).number < part.number
+part_greater first number one slots part same p = let is : part.number ≡ first + 1 + p.place = ap (λ (q : Part). q.number) p.is in omega arith
+
+-- the parts of these slots, of which the first is used or not
+abbrev parts_with : Bool → ℕ → Slot → List Slot → List Part
+parts_with used first one slots = if used then part_of first one ∷ parts_from (first + 1) slots else parts_from (first + 1) slots
+
+each_with : (used : Bool) (first : ℕ) (one : Slot) (slots : List Slot) → is_used one ≡ used
+    → All (IsPartFrom first (one ∷ slots)) (parts_from (first + 1) slots) → All (IsPartFrom first (one ∷ slots)) (parts_with used first one slots)
+each_with true first one slots is later =
+    All-cons (IsPartFrom first (one ∷ slots)) (part_of first one) (parts_from (first + 1) slots)
+    (record { place = 0; within = omega arith; used = is; is = ap (λ n. part_of n one) (omega arith) }) later
+each_with false first one slots is later = later
+
+-- each part is that of a used slot
+pub parts_each : (first : ℕ) (slots : List Slot) → All (IsPartFrom first slots) (parts_from first slots)
+parts_each first [] = λ k d h. absurd (omega arith)
+parts_each first (one ∷ slots) =
+    each_with (is_used one) first one slots refl
+    (All-weaker (IsPartFrom (first + 1) slots) (IsPartFrom first (one ∷ slots)) (part_later first one slots) (parts_from (first + 1) slots) (parts_each (first + 1) slots))
+
+abbrev pub Rises : Part → Part → Type 0
+Rises before after = before.number < after.number
+
+rising_with : (used : Bool) (first : ℕ) (one : Slot) (slots : List Slot) → AllPairs Rises (parts_from (first + 1) slots) → AllPairs Rises (parts_with used first one slots)
+rising_with true first one slots later =
+    AllPairs-cons Rises (part_of first one) (parts_from (first + 1) slots)
+    (All-weaker (IsPartFrom (first + 1) slots) (Rises (part_of first one)) (λ part p. part_greater first first one slots part refl p) (parts_from (first + 1) slots) (parts_each (first + 1) slots)) later
+rising_with false first one slots later = later
+
+-- by rising number
+pub parts_rising : (first : ℕ) (slots : List Slot) → AllPairs Rises (parts_from first slots)
+parts_rising first [] = λ i j d low high. absurd (omega arith)
+parts_rising first (one ∷ slots) = rising_with (is_used one) first one slots (parts_rising (first + 1) slots)
+
+-- used slots have sectors
+pub used_some : (slot : Slot) → is_used slot ≡ true → 1 ≤ slot.count
+used_some slot used = grind (arith, nat_tests)
+
+-- two used slots of one start share a sector
+pub same_start_meets : (one other : Slot) → is_used one ≡ true → is_used other ≡ true → one.start ≡ other.start → share one other ≡ true
+same_start_meets one other used other_used same =
+    let some = used_some one used in
+    let other_some = used_some other other_used in
+    let before : nat_lt one.start (other.start + other.count) ≡ true = grind (arith, nat_tests) in
+    let behind : nat_lt other.start (one.start + one.count) ≡ true = grind (arith, nat_tests) in
+    let both : (is_used one && is_used other) ≡ true = ap (λ b. b && is_used other) used ∙ ap (λ b. true && b) other_used in
+    ap (λ b. b && nat_lt one.start (other.start + other.count) && nat_lt other.start (one.start + one.count)) both
+    ∙ ap (λ b. true && b && nat_lt other.start (one.start + one.count)) before ∙ ap (λ b. true && true && b) behind
+
+-- the parts of a sound table whose slots lie apart are those of a plan that is served
+module _ (sectors : ℕ) (slots : List Slot) (sound : IsSound sectors slots) (few : sectors ≤ 2 ^ 31) (apart : LieApart slots) where
+
+  served_part : (part : Part) → IsPartFrom 1 slots part → IsServedPart part
+  served_part part p =
+      let four = sound.four in
+      let bounds = used_bounds sectors slots p.place sound (omega (arith, p.within)) p.used in
+      let some = used_some (slice_index_or slots p.place empty_slot) p.used in
+      let Served : Part → Type 0 = λ q. IsServedPart q in
+      subst Served (sym p.is) (record {
+        slot = refl;
+        numbered = omega arith;
+        low_number = omega (arith, p.within);
+        behind_table = bounds.0;
+        some = some;
+        named = omega (arith, bounds.1);
+      })
+
+  other_start : (one other : Part) → IsPartFrom 1 slots one → IsPartFrom 1 slots other → one.number < other.number → one.start ≡ other.start → ⊥
+  other_start one other p q rises same =
+      let number : one.number ≡ 1 + p.place = ap (λ (part : Part). part.number) p.is in
+      let other_number : other.number ≡ 1 + q.place = ap (λ (part : Part). part.number) q.is in
+      let start : one.start ≡ (slice_index_or slots p.place empty_slot).start = ap (λ (part : Part). part.start) p.is in
+      let other_start : other.start ≡ (slice_index_or slots q.place empty_slot).start = ap (λ (part : Part). part.start) q.is in
+      apart p.place q.place (omega arith) q.within
+      (same_start_meets (slice_index_or slots p.place empty_slot) (slice_index_or slots q.place empty_slot) p.used q.used (sym start ∙ same ∙ other_start))
+
+  pub parts_served : IsServed Mbr (parts_of slots) [] plain_layout
+  parts_served = record {
+    an_mbr = refl;
+    unwished = refl;
+    each = All-weaker (IsPartFrom 1 slots) IsServedPart served_part (parts_of slots) (parts_each 1 slots);
+    by_number = parts_rising 1 slots;
+    other_starts = λ i j d low high.
+      other_start (slice_index_or (parts_of slots) i d) (slice_index_or (parts_of slots) j d)
+      (parts_each 1 slots i d (omega arith)) (parts_each 1 slots j d high) (parts_rising 1 slots i j d low high);
+    some_align = omega arith;
+    small_align = omega arith;
+  }

@@ -1,0 +1,19 @@
+use Rattle.std.proofs.lemmas.Bool.Decides.{nat_tests}
+use Rattle.std.proofs.Common.{◌≡◌, arith, eq-eqb, sym, ◌==◌, true, false, length, slice_index_or, ◌<◌, find, take, None}
+use Rattle.layout_plan.specs.declared.part.Placed.{Placed}
+use Rattle.layout_plan.specs.declared.part.Fate.TheVariants.{Kept}
+use Rattle.resize_core.proofs.Found.{find_here, find_more}
+use Rattle.resize_core.proofs.targets.placed_under.Goals as goal
+
+abbrev nowhere : Placed
+nowhere = record { from = 0; number = 0; ebr = 0; start = 0; count = 0; fate = Kept }
+
+pub returns-then-one-number-clause-found : goal.returns-then-one-number-clause-found
+returns-then-one-number-clause-found c =
+    let here : ((slice_index_or c.args.placed.now c.loop-one.one-index nowhere).number == c.args.number) ≡ true = eq-eqb _ _ c.if-one-number.true in
+    sym (find_here (λ (one : Placed). one.number == c.args.number) c.args.placed.now c.loop-one.one-index nowhere (omega arith) c.loop-one.invariant here)
+
+pub loop-one-preserved : goal.loop-one-preserved
+loop-one-preserved c =
+    let other : ((slice_index_or c.args.placed.now c.loop-one.one-index nowhere).number == c.args.number) ≡ false = ne-eqb _ _ c.if-one-number.false in
+    find_more (λ (one : Placed). one.number == c.args.number) c.args.placed.now c.loop-one.one-index nowhere (omega arith) c.loop-one.invariant other
