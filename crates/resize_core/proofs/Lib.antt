@@ -1,2 +1,4 @@
 pub mod Copies
 pub mod Finishing
+pub mod Found
+pub mod PartsLemmas

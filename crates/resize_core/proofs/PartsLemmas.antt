@@ -82,7 +82,6 @@ same_start_meets one other used other_used same =
 
 -- the parts of a sound table whose slots lie apart are those of a plan that is served
 module _ (sectors : ℕ) (slots : List Slot) (sound : IsSound sectors slots) (few : sectors ≤ 2 ^ 31) (apart : LieApart slots) where
-
   served_part : (part : Part) → IsPartFrom 1 slots part → IsServedPart part
   served_part part p =
       let four = sound.four in
@@ -114,8 +113,8 @@ module _ (sectors : ℕ) (slots : List Slot) (sound : IsSound sectors slots) (fe
     each = All-weaker (IsPartFrom 1 slots) IsServedPart served_part (parts_of slots) (parts_each 1 slots);
     by_number = parts_rising 1 slots;
     other_starts = λ i j d low high.
-      other_start (slice_index_or (parts_of slots) i d) (slice_index_or (parts_of slots) j d)
-      (parts_each 1 slots i d (omega arith)) (parts_each 1 slots j d high) (parts_rising 1 slots i j d low high);
+        other_start (slice_index_or (parts_of slots) i d) (slice_index_or (parts_of slots) j d)
+        (parts_each 1 slots i d (omega arith)) (parts_each 1 slots j d high) (parts_rising 1 slots i j d low high);
     some_align = omega arith;
     small_align = omega arith;
   }

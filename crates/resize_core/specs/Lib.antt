@@ -1,3 +1,5 @@
 pub mod Finished
+pub mod Parts
 pub mod Ready
+pub mod Targets
 pub mod Transfers

@@ -10,9 +10,14 @@
 
 mod carrying;
 mod copying;
+mod parts;
+mod preparing;
 mod ready;
+mod refusal;
+mod targets;
 mod transfer;
 
 pub use carrying::carry_out;
 pub use ready::Ready;
+pub use refusal::MbrRefused;
 pub use transfer::Transfer;

@@ -139,6 +139,8 @@ pub(crate) fn boot(parts: &[Part], planned: &Planned) -> u64
     if parts.is_empty() || placed.is_empty() {
         return 1;
     }
-    let least = parts.iter().fold(MOST_BOOT, |least, part| least.min(part.start));
+    let least = parts
+        .iter()
+        .fold(MOST_BOOT, |least, part| least.min(part.start));
     placed.iter().fold(least, |least, one| least.min(one.start))
 }

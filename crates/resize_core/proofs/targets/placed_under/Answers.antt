@@ -1,5 +1,5 @@
 use Rattle.std.proofs.lemmas.Bool.Decides.{nat_tests}
-use Rattle.std.proofs.Common.{◌≡◌, arith, eq-eqb, sym, ◌==◌, true, false, length, slice_index_or, ◌<◌, find, take, None}
+use Rattle.std.proofs.Common.{◌≡◌, arith, eq-eqb, ne_eqb, sym, ◌==◌, true, false, length, slice_index_or, ◌<◌, find, take, None}
 use Rattle.layout_plan.specs.declared.part.Placed.{Placed}
 use Rattle.layout_plan.specs.declared.part.Fate.TheVariants.{Kept}
 use Rattle.resize_core.proofs.Found.{find_here, find_more}
@@ -15,5 +15,5 @@ returns-then-one-number-clause-found c =
 
 pub loop-one-preserved : goal.loop-one-preserved
 loop-one-preserved c =
-    let other : ((slice_index_or c.args.placed.now c.loop-one.one-index nowhere).number == c.args.number) ≡ false = ne-eqb _ _ c.if-one-number.false in
+    let other : ((slice_index_or c.args.placed.now c.loop-one.one-index nowhere).number == c.args.number) ≡ false = ne_eqb _ _ c.if-one-number.false in
     find_more (λ (one : Placed). one.number == c.args.number) c.args.placed.now c.loop-one.one-index nowhere (omega arith) c.loop-one.invariant other
