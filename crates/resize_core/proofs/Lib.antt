@@ -2,3 +2,4 @@ pub mod Copies
 pub mod Finishing
 pub mod Found
 pub mod PartsLemmas
+pub mod Placing

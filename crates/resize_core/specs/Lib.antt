@@ -1,5 +1,6 @@
 pub mod Finished
 pub mod Parts
+pub mod Placing
 pub mod Ready
 pub mod Targets
 pub mod Transfers

@@ -90,11 +90,18 @@ pub record IsReady (source_sectors target_sectors : ℕ) (table : Table) (work :
   pub from : work.source_sectors ≡ source_sectors
   pub to : work.target_sectors ≡ target_sectors
 
+-- why there is no plan for these parts; want of memory says nothing, and is no refusal of a plan
+abbrev pub HasNoPlanFor : ℕ → List Part → MbrRefused → Type 0
+HasNoPlanFor target_sectors parts (Overlap a b) = ⊥
+HasNoPlanFor target_sectors parts (NoPlan TooLittleMemory) = ⊥
+HasNoPlanFor target_sectors parts (NoPlan fault) = HasNoPlan Mbr parts [] plain_layout target_sectors fault
+HasNoPlanFor target_sectors parts Device = ⊥
+HasNoPlanFor target_sectors parts Memory = Unit {0}
+
 -- why the disk of that table can't be copied to one of target_sectors sectors: the first two slots that share a
--- sector, else why there is no plan; want of memory says nothing
+-- sector, else why there is no plan
 abbrev pub IsRefusedFor : ℕ → Table → MbrRefused → Type 0
 IsRefusedFor target_sectors table (Overlap a b) = IsOverlap table.slots a b
-IsRefusedFor target_sectors table (NoPlan TooLittleMemory) = ⊥
-IsRefusedFor target_sectors table (NoPlan fault) = LieApart table.slots × HasNoPlan Mbr (parts_of table.slots) [] plain_layout target_sectors fault
+IsRefusedFor target_sectors table (NoPlan fault) = LieApart table.slots × HasNoPlanFor target_sectors (parts_of table.slots) (NoPlan fault)
 IsRefusedFor target_sectors table Device = ⊥
 IsRefusedFor target_sectors table Memory = Unit {0}

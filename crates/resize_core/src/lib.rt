@@ -18,6 +18,7 @@ mod targets;
 mod transfer;
 
 pub use carrying::carry_out;
+pub use preparing::prepare_mbr;
 pub use ready::Ready;
 pub use refusal::MbrRefused;
 pub use transfer::Transfer;

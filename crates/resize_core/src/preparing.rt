@@ -1,10 +1,12 @@
 //! Making the work ready, before the first write.
-ghost use Rattle.std.specs.Prelude.{◌≡◌, ℕ, ◌+◌, ◌^◌, ◌<◌, ◌≤◌, All, AllPairs, IfSome, IfOk, IfErr, OnOk};
-ghost use Rattle.layout_plan.specs.Plans.{IsPlan, IsInside, Apart};
+ghost use Rattle.std.specs.Prelude.{◌≡◌, ℕ, ◌+◌, ◌^◌, ◌<◌, ◌≤◌, All, AllPairs, IfSome, IfOk, IfErr, OnOk, []};
+ghost use Rattle.layout_plan.specs.Plans.{IsPlan, IsInside, IsBehind, IsSameOrder, Apart};
+ghost use Rattle.layout_plan.specs.Served.{IsServed};
 ghost use Rattle.layout_plan.specs.declared.part.Kind.TheVariants.{Mbr as TheMbr};
 ghost use Rattle.mbr_table.specs.Mbr.{IsSound};
 ghost use Rattle.resize_core.specs.Parts.{parts_of, LieApart};
-ghost use Rattle.resize_core.specs.Targets.{IsNamed, IsReady, IsRefusedFor, HasNoExtended, plain_layout};
+ghost use Rattle.resize_core.specs.Placing.{IsPlacing};
+ghost use Rattle.resize_core.specs.Targets.{IsReady, IsRefusedFor, HasNoPlanFor, HasNoExtended, plain_layout};
 
 use crate::parts::{overlap, parts};
 use crate::ready::Ready;
@@ -21,3 +23,99 @@ const PLAIN: Layout = Layout {
     always: false,
     extra: true,
 };
+
+// The work of a plan.
+fn work(
+    alloc: Global,
+    source_sectors: u64,
+    target_sectors: u64,
+    mbr: &Mbr,
+    parts: &[Part],
+    planned: Planned,
+) -> Result<Ready, AllocError>
+    requires parts { parts.now ≡ parts_of mbr.now.slots }
+    requires placing { IsPlacing source_sectors target_sectors mbr.now.slots planned }
+    ensures { IfOk result (λ ready. IsReady source_sectors target_sectors mbr.now ready) }
+{
+    let slots = mbr.slots();
+    let transfers = transfers(alloc, slots, &planned)?;
+    let mut table = [0; 512];
+    mbr_sector(mbr.head(), &slots_to(slots, &planned), &mut table);
+    let boot = boot(parts, &planned);
+    Ok(Ready {
+        planned,
+        table,
+        boot,
+        transfers,
+        source_sectors,
+        target_sectors,
+    })
+}
+
+// The plan for the parts; want of memory is told apart from the plan's own refusals.
+fn plan_for(alloc: Global, parts: &[Part], sectors: u64) -> Result<Planned, MbrRefused>
+    requires { IsServed TheMbr parts.now [] plain_layout }
+    ensures plan { IfOk result (λ planned. IsPlan TheMbr parts.now [] plain_layout sectors planned) }
+    ensures none { IfErr result (HasNoPlanFor sectors parts.now) }
+    ensures same_order { IfOk result (λ planned. IsSameOrder parts.now planned.parts) }
+    ensures apart { IfOk result (λ planned. AllPairs Apart planned.parts) }
+    ensures inside { IfOk result (λ planned. All (IsInside planned.limit) planned.parts) }
+    ensures behind { IfOk result (λ planned. IfSome planned.extra (IsBehind planned.parts planned.limit)) }
+    ensures limit { IfOk result (λ planned. planned.limit ≤ sectors) }
+{
+    match plan(alloc, Kind::Mbr, parts, &[], &PLAIN, sectors) {
+        Ok(planned) => Ok(planned),
+        Err(NoPlan::Memory) => Err(MbrRefused::Memory),
+        Err(fault) => Err(MbrRefused::NoPlan(fault)),
+    }
+}
+
+// Makes ready the copy of a disk whose slots lie apart.
+fn prepare_apart(
+    alloc: Global,
+    source_sectors: u64,
+    mbr: &Mbr,
+    sectors: u64,
+) -> Result<Ready, MbrRefused>
+    requires some { 0 < source_sectors }
+    requires few { source_sectors ≤ 2 ^ 31 }
+    requires sound { IsSound source_sectors mbr.now.slots }
+    requires apart { LieApart mbr.now.slots }
+    ensures ready { IfOk result (λ ready. IsReady source_sectors sectors mbr.now ready) }
+    ensures refused { IfErr result (HasNoPlanFor sectors (parts_of mbr.now.slots)) }
+{
+    let parts = parts(alloc, mbr.slots())?;
+    let planned = plan_for(alloc, parts.as_slice(), sectors)?;
+    let ready = work(
+        alloc,
+        source_sectors,
+        sectors,
+        mbr,
+        parts.as_slice(),
+        planned,
+    )?;
+    Ok(ready)
+}
+
+/// Makes ready the copy of a disk of that table to a target of `sectors` sectors. It refuses, in this
+/// order, where two used slots share a sector and where there is no plan, and writes nothing.
+pub fn prepare_mbr<S: Blocks>(
+    alloc: Global,
+    source: &mut S,
+    mbr: &Mbr,
+    sectors: u64,
+) -> Result<Ready, MbrRefused>
+    requires some { 0 < S.size source.old }
+    requires few { S.size source.old ≤ 2 ^ 31 }
+    requires sound { IsSound (S.size source.old) mbr.now.slots }
+    requires plain { HasNoExtended mbr.now.slots }
+    ensures unread { source.new ≡ source.old }
+    ensures ready { IfOk result (λ ready. IsReady (S.size source.old) sectors mbr.now ready) }
+    ensures apart { OnOk result (LieApart mbr.now.slots) }
+    ensures refused { IfErr result (IsRefusedFor sectors mbr.now) }
+{
+    match overlap(mbr.slots()) {
+        Some((a, b)) => Err(MbrRefused::Overlap { a, b }),
+        None => prepare_apart(alloc, source.sectors(), mbr, sectors),
+    }
+}

@@ -1,0 +1,19 @@
+-- What is known of a plan for a sound table.
+use Rattle.std.specs.Prelude.{ℕ, ◌^◌, ◌≤◌, [], All, AllPairs, IfSome, List}
+use Rattle.layout_plan.specs.declared.part.Kind.TheVariants.{Mbr}
+use Rattle.layout_plan.specs.Plans.{Plan, IsPlan, IsSameOrder, IsInside, IsBehind, Apart}
+use Rattle.mbr_table.specs.declared.slot.Slot.{Slot}
+use Rattle.mbr_table.specs.Mbr.{IsSound}
+use Rattle.resize_core.specs.Parts.{parts_of}
+use Rattle.resize_core.specs.Targets.{plain_layout}
+
+pub record IsPlacing (source_sectors target_sectors : ℕ) (slots : List Slot) (plan : Plan) : Type 0 where
+  pub some_source : 1 ≤ source_sectors
+  pub few_source : source_sectors ≤ 2 ^ 31
+  pub sound : IsSound source_sectors slots
+  pub is_plan : IsPlan Mbr (parts_of slots) [] plain_layout target_sectors plan
+  pub same_order : IsSameOrder (parts_of slots) plan.parts
+  pub apart : AllPairs Apart plan.parts
+  pub inside : All (IsInside plan.limit) plan.parts
+  pub behind : IfSome plan.extra (IsBehind plan.parts plan.limit)
+  pub limit : plan.limit ≤ target_sectors
