@@ -25,3 +25,6 @@ pub use part::{Fate, Kind, Part, Placed, Role};
 pub use planned::Planned;
 pub use planner::plan;
 pub use wish::{Layout, Size, What, Wish};
+
+#[cfg(test)]
+mod tests;
