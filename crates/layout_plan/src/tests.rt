@@ -2,7 +2,7 @@
 ghost use Rattle.std.specs.Prelude.{◌≡◌};
 ghost use Rattle.layout_plan.specs.declared.part.Role.TheVariants.{Slot};
 
-use crate::{Fate, Kind, Layout, NoPlan, Part, Placed, Role, one_layout, plan};
+use crate::{Fate, Kind, Layout, NoPlan, Part, Placed, Role, one_layout, one_plan, plan};
 use std::test::Fail;
 
 /// A layout by 64 KiB that makes a partition of what is left over.
@@ -40,6 +40,7 @@ fn kept(from: u32, number: u32, start: u64, count: u64) -> Placed {
 #[test]
 fn keeps_a_lone_slot(rt: HostRuntime) -> Result<(), Fail> {
     one_layout();
+    one_plan();
     let parts = [slot(1, 2048, 20480)];
     for (sectors, extra) in [
         (65536, Some(kept(0, 2, 22528, 43008))),
