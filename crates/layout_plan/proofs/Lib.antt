@@ -3,3 +3,4 @@ pub mod Lines
 pub mod Starts
 pub mod Slots
 pub mod Sound
+pub mod Unique

@@ -8,7 +8,7 @@ use Rattle.layout_plan.specs.declared.wish.Layout.{Layout}
 use Rattle.layout_plan.specs.declared.wish.Wish.{Wish}
 use Rattle.layout_plan.specs.Faults.{IsDue, IsWishFault, IsLengthFault}
 use Rattle.layout_plan.specs.Layouts.{last_end}
-use Rattle.layout_plan.specs.Plans.{IsLaid}
+use Rattle.layout_plan.specs.Plans.{Plan, IsLaid, IsPlan}
 use Rattle.layout_plan.specs.Tables.{floor_of, limit_of, least_disk}
 use Rattle.layout_plan.specs.Wishes.{wanted}
 
@@ -35,3 +35,11 @@ HasNoPlan kind parts wishes layout sectors (DoesNotFit last limit) = IsTooLong k
 HasNoPlan kind parts wishes layout sectors (NoSurplus limit) = ⊥
 HasNoPlan kind parts wishes layout sectors (NoDeficit last) = ⊥
 HasNoPlan kind parts wishes layout sectors Memory = Unit {0}
+
+-- a job has at most one plan, and where it has one, nothing but memory can be lacking
+abbrev pub OnePlan : Type 0
+OnePlan =
+    (kind : Kind) (parts : List Part) (wishes : List Wish) (layout : Layout) (sectors : ℕ) (one : Plan)
+    → IsPlan kind parts wishes layout sectors one
+    → ((other : Plan) → IsPlan kind parts wishes layout sectors other → other ≡ one)
+    × ((fault : NoPlan) → HasNoPlan kind parts wishes layout sectors fault → fault ≡ Memory)

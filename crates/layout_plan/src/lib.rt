@@ -23,5 +23,8 @@ pub use alignment::one_layout;
 pub use fault::NoPlan;
 pub use part::{Fate, Kind, Part, Placed, Role};
 pub use planned::Planned;
-pub use planner::plan;
+pub use planner::{one_plan, plan};
 pub use wish::{Layout, Size, What, Wish};
+
+#[cfg(test)]
+mod tests;

@@ -1,7 +1,7 @@
 //! The plan of a job.
 ghost use Rattle.std.specs.Prelude.{◌≡◌, ℕ, ◌≤◌, ◌-◌, All, AllPairs, IfOk, IfErr, IfSome};
 ghost use Rattle.layout_plan.specs.Plans.{Apart, IsBehind, IsInside, IsPlan, IsSameOrder};
-ghost use Rattle.layout_plan.specs.Refusals.{HasNoPlan};
+ghost use Rattle.layout_plan.specs.Refusals.{HasNoPlan, OnePlan};
 ghost use Rattle.layout_plan.specs.Served.{IsServed};
 ghost use Rattle.layout_plan.specs.Tables.{least_disk, limit_of};
 
@@ -38,7 +38,12 @@ fn limit(kind: Kind, sectors: u64) -> u64
     }
 }
 
-/// The plan for the parts on a target of `sectors` sectors, or why there is none.
+/// Where the parts, which stand by rising number, come to stand on a target of `sectors` sectors.
+///
+/// They are laid out by rising start, the first one at the least start of all, or at the first multiple of the
+/// alignment where the layout asks for that, and each later one at the next multiple behind the one before it.
+/// `TooSmall` is a target with no room for a table, `TooLarge` one of more than 2^31 sectors, and `DoesNotFit`
+/// says where the last part would end. `Memory` may come at any call.
 pub fn plan(
     alloc: Global,
     kind: Kind,
@@ -76,3 +81,8 @@ pub fn plan(
     let extra = extra_part(kind, layout, &placed, laid.end, limit);
     Ok(Planned::new(placed, extra, limit))
 }
+
+/// The law that a job has at most one plan, and no reason against it where it has one. A call does nothing.
+pub fn one_plan()
+    ensures { OnePlan }
+{}
