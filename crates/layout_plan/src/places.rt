@@ -19,6 +19,7 @@ fn start_of(laid: &[Part], starts: &[u64], part: &Part) -> u64
             return starts[place];
         }
     }
+    // The part is there, so that the loop has found it.
     0
 }
 
