@@ -1,1 +1,3 @@
 pub mod FileDisk
+pub mod Verdict
+pub mod Words

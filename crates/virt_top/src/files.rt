@@ -86,7 +86,11 @@ fn open<R: Files<File = File>>(files: &R, name: &[u8], mode: Mode) -> Result<(Fi
     if let Mode::Create(n) = mode {
         make_blank(&mut file, n)?;
         let sectors = sectors_of(&mut file)?;
-        return if sectors == n { Ok((file, sectors)) } else { Err(Failed) };
+        return if sectors == n {
+            Ok((file, sectors))
+        } else {
+            Err(Failed)
+        };
     }
     let sectors = sectors_of(&mut file)?;
     Ok((file, sectors))
@@ -155,9 +159,13 @@ impl<'a, R: Files<File = File>> Blocks for FileDisk<'a, R> {
     ghost use Rattle.virt_top.specs.FileDisk.{OnlyRead};
 
     ghost tells = { false };
+
     ghost image = { λ _. [] };
+
     ghost size = { λ d. d.sectors };
+
     ghost faults = { λ d. d.faults };
+
     ghost only_read = { λ a b. OnlyRead a.sectors a.attached a.faults b.sectors b.attached b.faults };
 
     fn sectors(&self) -> u64 {
@@ -176,11 +184,17 @@ impl<'a, R: Files<File = File>> Blocks for FileDisk<'a, R> {
     ghost use Rattle.virt_top.specs.FileDisk.{read_nothing, read_on};
 
     ghost read_nothing = { λ d. read_nothing d.sectors d.attached d.faults };
+
     ghost read_on = { λ a b c. read_on a.sectors a.attached a.faults b.sectors b.attached b.faults c.sectors c.attached c.faults };
+
     ghost same_size = { λ a b r. r.sectors };
+
     ghost same_image = { λ a b r t. refl };
+
     ghost whole = { λ d t. Prim.cc };
+
     ghost no_fewer = { λ a b r. r.faults };
+
     ghost last_count = { λ d. d.counted };
 }
 
@@ -189,7 +203,9 @@ impl<'a, R: Files<File = File>> Disk for FileDisk<'a, R> {
     ghost use Rattle.std.specs.Prelude.{refl};
 
     ghost log = { λ _. fresh [] };
+
     ghost attached = { λ d. d.attached };
+
     ghost discards = { λ _. true };
 
     fn attach(&mut self, name: &[u8], mode: Mode) -> Result<(), Failed> {
@@ -236,7 +252,10 @@ impl<'a, R: Files<File = File>> Disk for FileDisk<'a, R> {
     }
 
     ghost same_log = { λ a b r t. refl };
+
     ghost same_mode = { λ a b r. r.attached };
+
     ghost same_discards = { λ a b r. refl };
+
     ghost empty = { λ d t. d.idle };
 }

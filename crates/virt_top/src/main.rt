@@ -2,7 +2,10 @@
 #![tactic(auto)]
 
 mod files;
+mod judging;
+mod stop;
 mod streams;
+mod words;
 
 use files::FileDisk;
 use streams::StdSink;
