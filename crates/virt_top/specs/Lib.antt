@@ -1,3 +1,5 @@
 pub mod FileDisk
+pub mod Lines
+pub mod Outcome
 pub mod Verdict
 pub mod Words

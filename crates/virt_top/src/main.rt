@@ -2,7 +2,9 @@
 #![tactic(auto)]
 
 mod files;
+mod job;
 mod judging;
+mod lines;
 mod stop;
 mod streams;
 mod words;

@@ -1,0 +1,10 @@
+use Rattle.std.proofs.Common.{rules, ◌≡◌, sym, subst}
+use Rattle.resize_core.specs.Ready.{Work}
+use Rattle.resize_core.specs.Targets.{IsReady}
+use Rattle.virt_top.proofs.job.prepare_for.Goals as goal
+
+pub returns-clause-work : goal.returns-clause-work
+returns-clause-work g c =
+    let is : c.in_ok-prepared.prepared.ready ≡ c.in_ok-ready.ready = search rules in
+    let Ready : Work → Type 0 = λ work. IsReady (g.S.Blocks.size c.args.source.now) c.args.sectors c.args.mbr.now work in
+    subst Ready (sym is) c.in_ok-ready.ensures.ready
