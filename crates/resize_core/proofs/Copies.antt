@@ -1,7 +1,7 @@
 -- What copying piece by piece and transfer by transfer amounts to.
 use Rattle.std.proofs.lemmas.Bool.{cases_lt}
 use Rattle.std.proofs.lemmas.List.{get_or_default}
-use Rattle.std.proofs.Common.{rules, ◌≡◌, ℕ, ◌+◌, ◌-◌, ◌*◌, ◌<◌, ◌≤◌, List, length, arith, refl, ◌∙◌, sym, ap, subst, ◌⊎◌, inl, inr, slice_index_or, AllPairs}
+use Rattle.std.proofs.Common.{◌≡◌, ℕ, ◌+◌, ◌-◌, ◌*◌, ◌<◌, ◌≤◌, List, length, arith, refl, ◌∙◌, sym, ap, subst, inl, inr, slice_index_or, AllPairs}
 use Rattle.disk_base.specs.Image.{bytes_at, with_bytes, sector, AgreesOutside}
 use Rattle.disk_base.proofs.Images.{bytes_outside, agrees_with_bytes, length-bytes_at, length-with_bytes, sector_written, sector_before, sector_behind, sector_of_range}
 use Rattle.disk_base.specs.Log.{Log}

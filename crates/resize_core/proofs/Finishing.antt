@@ -1,16 +1,15 @@
 -- The writes in their order make the finished target.
-use Rattle.std.proofs.lemmas.Bool.{cases_lt}
 use Rattle.std.proofs.lemmas.List.{length-replicate, take_all}
 use Rattle.std.proofs.lemmas.List.Elements.{All-get_or}
-use Rattle.std.proofs.Common.{rules, ◌≡◌, ℕ, ◌+◌, ◌-◌, ◌*◌, ◌<◌, ◌≤◌, List, length, arith, refl, ◌∙◌, sym, ap, subst, inl, inr, slice_index_or, replicate, take, All, Result, Ok, Err, IfErr}
-use Rattle.disk_base.specs.Image.{bytes_at, with_bytes, sector, AgreesOutside}
+use Rattle.std.proofs.Common.{◌≡◌, ℕ, ◌+◌, ◌-◌, ◌*◌, ◌<◌, ◌≤◌, List, length, arith, ◌∙◌, sym, ap, slice_index_or, replicate, Result, Ok, Err, IfErr}
+use Rattle.disk_base.specs.Image.{with_bytes, sector, AgreesOutside}
 use Rattle.disk_base.proofs.Images.{sector_written, sector_behind, length-with_bytes}
 use Rattle.disk_base.specs.declared.device.DeviceFault.{DeviceFault}
 use Rattle.disk_base.specs.declared.device.DeviceFault.TheVariants.{Source, Target}
 use Rattle.resize_core.specs.declared.transfer.Transfer.{Transfer}
-use Rattle.resize_core.specs.Transfers.{IsOutside, IsBetween, IsCopied, AreCopied, OnlyWithin}
+use Rattle.resize_core.specs.Transfers.{IsCopied, AreCopied, OnlyWithin}
 use Rattle.resize_core.specs.Finished.{IsFinished, IsCarriable, HasNoTable, LeavesNoTable, boot_transfer}
-use Rattle.resize_core.proofs.Copies.{nothing, begun_outside}
+use Rattle.resize_core.proofs.Copies.{begun_outside}
 
 pub zeros_long : length {A = ℕ} (replicate 512 0) ≡ 512
 zeros_long = length-replicate {A = ℕ} 512 0

@@ -1,7 +1,7 @@
 -- The first element that passes a test, in a loop over the list.
 use Rattle.std.proofs.lemmas.List.{take_more, drop_more, take-append-drop}
 use Rattle.std.proofs.lemmas.List.Folds.{find-append}
-use Rattle.std.proofs.Common.{◌≡◌, ℕ, ◌+◌, ◌<◌, List, [], ◌∷◌, ◌++◌, length, take, drop, refl, ◌∙◌, sym, ap, Bool, true, false, cond, slice_index_or, Option, Some, None, find}
+use Rattle.std.proofs.Common.{◌≡◌, ℕ, ◌+◌, ◌<◌, List, [], ◌∷◌, length, take, drop, ◌∙◌, sym, ap, Bool, true, false, cond, slice_index_or, Some, None, find}
 use Rattle.std.specs.Option.{option_or}
 
 -- none of the first ones passes, and this one does

@@ -3,3 +3,4 @@ pub mod Finishing
 pub mod Found
 pub mod PartsLemmas
 pub mod Placing
+pub mod ReadBack

@@ -2,16 +2,16 @@
 use Rattle.std.proofs.lemmas.Bool.Decides.{nat_tests}
 use Rattle.std.proofs.lemmas.List.Elements.{All-cons, All-weaker}
 use Rattle.std.proofs.lemmas.List.Kept.{AllPairs-cons}
-use Rattle.std.proofs.Common.{rules, ◌≡◌, ℕ, ◌+◌, ◌-◌, ◌<◌, ◌≤◌, List, [], ◌∷◌, ◌++◌, length, take, arith, refl, ◌∙◌, sym, ap, Bool, true, false, slice_index_or, if◌then◌else◌, append_assoc, All, AllPairs, suc, nat_lt, ◌&&◌, ◌^◌, subst}
+use Rattle.std.proofs.Common.{◌≡◌, ℕ, ◌+◌, ◌<◌, ◌≤◌, List, [], ◌∷◌, length, arith, refl, ◌∙◌, sym, ap, Bool, true, false, slice_index_or, if◌then◌else◌, All, AllPairs, suc, nat_lt, ◌&&◌, ◌^◌, subst}
 use Rattle.layout_plan.specs.declared.part.Kind.TheVariants.{Mbr}
 use Rattle.layout_plan.specs.declared.part.Part.{Part}
 use Rattle.layout_plan.specs.Served.{IsServed, IsServedPart}
 use Rattle.mbr_table.specs.declared.slot.Slot.{Slot}
 use Rattle.mbr_table.specs.Mbr.{IsSound}
-use Rattle.mbr_table.specs.Slot.{is_used, empty_slot, end_of}
+use Rattle.mbr_table.specs.Slot.{is_used, empty_slot}
 use Rattle.mbr_table.proofs.Tables.{used_bounds}
 use Rattle.resize_core.specs.Targets.{plain_layout}
-use Rattle.resize_core.specs.Parts.{part_of, parts_of, parts_from, share, Meet, MeetsNone, MeetsFirst, LieApart}
+use Rattle.resize_core.specs.Parts.{part_of, parts_of, parts_from, share, LieApart}
 
 -- a part is that of a used slot, where the first slot has the number `first`
 pub record IsPartFrom (first : ℕ) (slots : List Slot) (part : Part) : Type 0 where

@@ -1,26 +1,23 @@
 -- A plan for a sound table gives work that can be carried out.
-use Rattle.std.proofs.lemmas.List.{get_or-map, get_or_default, length-map}
-use Rattle.std.proofs.lemmas.List.Elements.{All-get_or, All-map, All-append, All-cons}
+use Rattle.std.proofs.lemmas.List.{get_or-map, length-map}
+use Rattle.std.proofs.lemmas.List.Elements.{All-map, All-append, All-cons}
 use Rattle.std.proofs.lemmas.Bool.Decides.{nat_tests}
 use Rattle.std.proofs.lemmas.List.Sums.{fold-append}
-use Rattle.std.proofs.Common.{rules, ◌≡◌, ℕ, ◌+◌, ◌-◌, ◌*◌, ◌^◌, ◌<◌, ◌≤◌, ◌⊎◌, inl, inr, List, [], ◌∷◌, ◌++◌, length, map, fold, min, arith, refl, ◌∙◌, sym, ap, subst, Bool, true, false, ◌||◌, if◌then◌else◌, ◌==◌, slice_index_or, All, AllPairs, Option, Some, None, IfSome, eq-eqb, suc}
-use Rattle.layout_plan.specs.declared.part.Kind.TheVariants.{Mbr}
+use Rattle.std.proofs.Common.{◌≡◌, ℕ, ◌+◌, ◌-◌, ◌^◌, ◌<◌, ◌≤◌, inl, inr, List, [], ◌∷◌, ◌++◌, length, map, fold, min, arith, refl, ◌∙◌, sym, ap, subst, Bool, true, false, ◌||◌, if◌then◌else◌, ◌==◌, slice_index_or, All, AllPairs, suc}
 use Rattle.layout_plan.specs.declared.part.Part.{Part}
 use Rattle.layout_plan.specs.declared.part.Role.TheVariants.{Slot as TheSlot}
 use Rattle.layout_plan.specs.declared.part.Placed.{Placed}
 use Rattle.layout_plan.specs.declared.part.Fate.TheVariants.{Kept}
-use Rattle.layout_plan.specs.Plans.{Plan, IsPlan, IsSameOrder, IsInside, IsBehind, Apart}
+use Rattle.layout_plan.specs.Plans.{Plan, IsInside, Apart}
 use Rattle.mbr_table.specs.declared.slot.Slot.{Slot}
-use Rattle.mbr_table.specs.Mbr.{IsSound}
 use Rattle.mbr_table.specs.Slot.{is_used, empty_slot, end_of}
 use Rattle.mbr_table.proofs.Tables.{used_bounds}
 use Rattle.resize_core.specs.declared.transfer.Transfer.{Transfer}
-use Rattle.resize_core.specs.Finished.{IsCarriable, boot_transfer}
-use Rattle.resize_core.specs.Parts.{parts_of, part_of}
+use Rattle.resize_core.specs.Finished.{IsCarriable}
+use Rattle.resize_core.specs.Parts.{parts_of}
 use Rattle.resize_core.specs.Placing.{IsPlacing}
-use Rattle.resize_core.specs.Targets.{IsNamed, source_slot, transfer_of, transfers_of, least_start, boot_end, most_boot}
+use Rattle.resize_core.specs.Targets.{IsNamed, source_slot, transfer_of, transfers_of, boot_end, most_boot}
 use Rattle.resize_core.specs.Transfers.{IsBetween, WriteApart}
-use Rattle.resize_core.proofs.Copies.{nothing}
 use Rattle.resize_core.proofs.PartsLemmas.{IsPartFrom, parts_each}
 
 -- a placed partition comes from a used slot of the source, and keeps its length

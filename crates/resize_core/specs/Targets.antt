@@ -1,5 +1,5 @@
 -- What a plan makes of a table: the target's slots, the contents to copy, and the boot area.
-use Rattle.std.specs.Prelude.{◌≡◌, ℕ, ◌+◌, ◌-◌, ◌^◌, ◌≤◌, ◌==◌, ◌||◌, Bool, true, false, min, if◌then◌else◌, List, [], ◌∷◌, ◌++◌, length, map, fold, find, slice_index_or, Option, Some, None}
+use Rattle.std.specs.Prelude.{◌≡◌, ℕ, ◌+◌, ◌-◌, ◌^◌, ◌≤◌, ◌==◌, ◌||◌, true, false, min, if◌then◌else◌, List, [], ◌∷◌, ◌++◌, length, map, fold, find, slice_index_or, Option, Some, None}
 use Rattle.std.specs.List.{list_any}
 use Rattle.layout_plan.specs.declared.fault.NoPlan.TheVariants.{Memory as TooLittleMemory}
 use Rattle.layout_plan.specs.declared.part.Kind.TheVariants.{Mbr}

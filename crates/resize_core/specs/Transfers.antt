@@ -1,5 +1,5 @@
 -- Sectors that are copied from one disk to another.
-use Rattle.std.specs.Prelude.{◌≡◌, ℕ, ◌+◌, ◌*◌, ◌^◌, ◌<◌, ◌≤◌, ◌⊎◌, List, length, slice_index_or, All, AllPairs}
+use Rattle.std.specs.Prelude.{◌≡◌, ℕ, ◌+◌, ◌^◌, ◌<◌, ◌≤◌, ◌⊎◌, List, length, slice_index_or}
 use Rattle.disk_base.specs.Image.{sector}
 use Rattle.disk_base.specs.Log.{Log}
 use Rattle.disk_base.specs.declared.device.DeviceFault.{DeviceFault}

@@ -35,7 +35,8 @@ fn work(
 ) -> Result<Ready, AllocError>
     requires parts { parts.now ≡ parts_of mbr.now.slots }
     requires placing { IsPlacing source_sectors target_sectors mbr.now.slots planned }
-    ensures { IfOk result (λ ready. IsReady source_sectors target_sectors mbr.now ready) }
+    ensures ready { IfOk result (λ ready. IsReady source_sectors target_sectors mbr.now ready) }
+    ensures placed { IfOk result (λ ready. IsPlacing source_sectors target_sectors mbr.now.slots ready.plan) }
 {
     let slots = mbr.slots();
     let transfers = transfers(alloc, slots, &planned)?;
@@ -82,6 +83,7 @@ fn prepare_apart(
     requires sound { IsSound source_sectors mbr.now.slots }
     requires apart { LieApart mbr.now.slots }
     ensures ready { IfOk result (λ ready. IsReady source_sectors sectors mbr.now ready) }
+    ensures placed { IfOk result (λ ready. IsPlacing source_sectors sectors mbr.now.slots ready.plan) }
     ensures refused { IfErr result (HasNoPlanFor sectors (parts_of mbr.now.slots)) }
 {
     let parts = parts(alloc, mbr.slots())?;
@@ -111,6 +113,7 @@ pub fn prepare_mbr<S: Blocks>(
     requires plain { HasNoExtended mbr.now.slots }
     ensures unread { source.new ≡ source.old }
     ensures ready { IfOk result (λ ready. IsReady (S.size source.old) sectors mbr.now ready) }
+    ensures placed { IfOk result (λ ready. IsPlacing (S.size source.old) sectors mbr.now.slots ready.plan) }
     ensures apart { OnOk result (LieApart mbr.now.slots) }
     ensures refused { IfErr result (IsRefusedFor sectors mbr.now) }
 {

@@ -1,11 +1,10 @@
 -- The target is finished after all writes, and has no table where the source failed between them.
-use Rattle.std.proofs.Common.{rules, ◌≡◌, ℕ, ◌+◌, ◌-◌, ◌*◌, ◌<◌, ◌≤◌, List, length, arith, ap, ◌∙◌, sym, subst, replicate}
-use Rattle.disk_base.specs.Image.{with_bytes, sector}
+use Rattle.std.proofs.Common.{rules, ◌≡◌, ℕ, ◌-◌, ◌*◌, List, length, ap, ◌∙◌, subst, replicate}
+use Rattle.disk_base.specs.Image.{with_bytes}
 use Rattle.resize_core.specs.declared.transfer.Transfer.{Transfer}
 use Rattle.resize_core.specs.Transfers.{AreCopied, IsCopied, OnlyWithin}
-use Rattle.resize_core.specs.Finished.{HasNoTable, boot_transfer}
+use Rattle.resize_core.specs.Finished.{boot_transfer}
 use Rattle.resize_core.proofs.Finishing.{finished, no_table_cleared, no_table_within, no_table_at_fault, no_table_booting}
-use Rattle.resize_core.proofs.Copies.{made_within}
 use Rattle.resize_core.proofs.carrying.carry_out.Goals as goal
 
 pub returns-in_err-copy_all-clause-no_table : goal.returns-in_err-copy_all-clause-no_table

@@ -1,9 +1,8 @@
 -- One more transfer: what it copied goes to the invariant by `transfer_more`.
-use Rattle.std.proofs.Common.{rules, ◌≡◌, ◌<◌, ◌≤◌, ◌^◌, List, ℕ, length, arith, ap, ◌∙◌, sym, subst, slice_index_or}
+use Rattle.std.proofs.Common.{◌≡◌, ◌≤◌, ◌^◌, List, ℕ, arith, ◌∙◌, subst, slice_index_or}
 use Rattle.std.proofs.lemmas.List.Elements.{All-get_or}
-use Rattle.disk_base.specs.Image.{AgreesOutside}
 use Rattle.resize_core.specs.declared.transfer.Transfer.{Transfer}
-use Rattle.resize_core.specs.Transfers.{IsBetween, IsCopied, OnlyWithin}
+use Rattle.resize_core.specs.Transfers.{IsBetween, IsCopied}
 use Rattle.resize_core.proofs.Copies.{nothing, transfer_more, begun_within, same_asks_on}
 use Rattle.resize_core.proofs.copying.copy_all.Goals as goal
 

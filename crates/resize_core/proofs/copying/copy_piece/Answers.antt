@@ -1,4 +1,4 @@
-use Rattle.std.proofs.Common.{rules, ◌≡◌, ◌*◌, arith, refl, length}
+use Rattle.std.proofs.Common.{rules, ◌≡◌, ◌*◌, arith}
 use Rattle.disk_base.specs.Image.{with_bytes}
 use Rattle.resize_core.proofs.Copies.{agrees_written}
 use Rattle.resize_core.proofs.copying.copy_piece.Goals as goal

@@ -1,5 +1,5 @@
 -- One more piece: what it wrote goes to the invariant by `piece_more`.
-use Rattle.std.proofs.Common.{rules, ◌≡◌, ℕ, ◌+◌, ◌*◌, ◌≤◌, List, length, arith, ap, ◌∙◌}
+use Rattle.std.proofs.Common.{ℕ, ◌+◌, ◌*◌, List, arith, ap, ◌∙◌}
 use Rattle.disk_base.specs.Image.{bytes_at, with_bytes}
 use Rattle.disk_base.proofs.Images.{agrees_on}
 use Rattle.resize_core.proofs.Copies.{piece_more, same_asks_on}

@@ -1,6 +1,5 @@
 -- The sectors so far were copied, and nothing else was changed.
-use Rattle.std.proofs.Common.{◌-◌, ◌≡◌, ℕ, ◌*◌, ◌≤◌, List, Option, IsTrue}
-use Rattle.disk_base.specs.declared.device.Mode.{Mode}
+use Rattle.std.proofs.Common.{◌-◌, ◌≡◌, ◌*◌, ◌≤◌, IsTrue}
 use Rattle.disk_base.specs.Image.{AgreesOutside}
 use Rattle.resize_core.specs.Transfers.{IsCopied, SameAsks}
 use Rattle.resize_core.proofs.Copies.{Goes}

@@ -27,8 +27,8 @@ invariant_of-result c =
     subst With (sym transfers_are) (subst AtBoot (sym boot_is)
     (carriable c.args.source_sectors c.args.target_sectors c.args.mbr.now.slots c.args.planned c.requires.placing))
 
-pub returns : goal.returns
-returns c = record {
+pub returns-clause-ready : goal.returns-clause-ready
+returns-clause-ready c = record {
   plan = c.requires.placing.is_plan;
   sector = c.mbr_sector.ensures.bytes ∙ ap (λ (head : List ℕ). mbr_sector_of head c.slots_to.result) c.head.ensures
       ∙ ap (λ (slots : List Slot). mbr_sector_of c.args.mbr.now.head slots) (c.slots_to.ensures ∙ ap (λ (slots : List Slot). target_slots slots c.args.planned) c.slots-slots.ensures);

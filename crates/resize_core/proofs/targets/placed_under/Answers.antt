@@ -1,5 +1,4 @@
-use Rattle.std.proofs.lemmas.Bool.Decides.{nat_tests}
-use Rattle.std.proofs.Common.{◌≡◌, arith, eq-eqb, ne_eqb, sym, ◌==◌, true, false, length, slice_index_or, ◌<◌, find, take, None}
+use Rattle.std.proofs.Common.{◌≡◌, arith, eq-eqb, ne_eqb, sym, ◌==◌, true, false, slice_index_or}
 use Rattle.layout_plan.specs.declared.part.Placed.{Placed}
 use Rattle.layout_plan.specs.declared.part.Fate.TheVariants.{Kept}
 use Rattle.resize_core.proofs.Found.{find_here, find_more}
