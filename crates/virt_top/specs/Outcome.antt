@@ -2,7 +2,8 @@
 use Rattle.std.specs.Prelude.{◌≡◌, ℕ, ◌+◌, ◌<◌, ◌≤◌, ◌⊎◌, List, [], ◌++◌, length, take, max}
 use Rattle.disk_base.specs.declared.device.Mode.{Mode}
 use Rattle.disk_base.specs.declared.device.Mode.TheVariants.{Read, Change}
-use Rattle.disk_base.specs.declared.device.Ask.{Ask}
+use Rattle.disk_base.specs.declared.device.DeviceFault.{DeviceFault}
+use Rattle.disk_base.specs.declared.device.DeviceFault.TheVariants.{Source as FailedSource, Target as FailedTarget}
 use Rattle.disk_base.specs.Log.{Log, Asked, created}
 use Rattle.disk_base.specs.Faults.{counted}
 use Rattle.mbr_table.specs.Mbr.{Table}
@@ -102,3 +103,31 @@ pub record IsPreparedWork (source target : List ℕ) (work : Work) (text : List 
   pub table : Table
   pub is_work : IsWork source target table work
   pub lines : text ≡ lines_of table.slots work.plan
+
+-- what carrying out work and printing its lines leaves where it stops; `same` says that the target is as it was, and
+-- `done` that the work is done
+abbrev pub IsCutShort : Type 0 → Type 0 → List ℕ → List ℕ → List ℕ → Stop → Type 0
+IsCutShort same done summary old new SourceDevice = new ≡ old ++ summary
+IsCutShort same done summary old new TargetDevice = new ≡ old ++ summary
+IsCutShort same done summary old new Printing = (same × GainsPrefix summary old new) ⊎ (done × GainsPrefix last_line (old ++ summary) new)
+IsCutShort same done summary old new _ = ⊥
+
+-- what a fault of a device stops with
+abbrev pub stop_of_device : DeviceFault → Stop
+stop_of_device FailedSource = SourceDevice
+stop_of_device FailedTarget = TargetDevice
+
+-- what never holds
+abbrev pub Never : Type 0
+Never = ⊥
+
+-- a stop by a device
+abbrev pub IsDeviceStop : Stop → Type 0
+IsDeviceStop SourceDevice = Unit {0}
+IsDeviceStop TargetDevice = Unit {0}
+IsDeviceStop _ = ⊥
+
+-- a disk that is as it was
+pub record IsSame (image image' : List ℕ) (old new : Log) : Type 0 where
+  pub held : image' ≡ image
+  pub log : new ≡ old

@@ -8,6 +8,7 @@ mod lines;
 mod stop;
 mod streams;
 mod words;
+mod writing;
 
 use files::FileDisk;
 use streams::StdSink;
