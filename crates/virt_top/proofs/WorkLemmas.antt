@@ -1,14 +1,18 @@
 -- From what preparing the work answers to what is due.
-use Rattle.std.proofs.Common.{◌≡◌, ℕ, List, sym, subst}
+use Rattle.std.proofs.Common.{◌≡◌, ◌⊎◌, ℕ, List, sym, subst, ◌∙◌, ◌≤◌, ◌+◌, ◌-◌, ◌^◌, min, arith, inl, inr}
+use Rattle.disk_base.specs.declared.device.Mode.{Mode}
+use Rattle.disk_base.specs.Log.{Log, Asked}
 use Rattle.layout_plan.specs.declared.fault.NoPlan.{NoPlan}
 use Rattle.mbr_table.specs.Mbr.{Table}
 use Rattle.resize_core.specs.declared.refusal.MbrRefused.TheVariants.{NoPlan as Refused}
+use Rattle.disk_base.specs.Faults.{Rose, counted}
+use Rattle.resize_core.specs.Ready.{Work, IsDone}
 use Rattle.resize_core.specs.Targets.{IsRefusedFor}
 use Rattle.virt_top.specs.declared.stop.SourceFault.{SourceFault}
 use Rattle.virt_top.specs.declared.stop.SourceFault.TheVariants.{TooLarge, NoSignature, Entry, Overlap}
 use Rattle.virt_top.specs.declared.stop.Stop.{Stop}
 use Rattle.virt_top.specs.declared.stop.Stop.TheVariants.{NotYet, Source, NoPlan as Unplanned, SourceDevice, TargetDevice, Memory, Printing}
-use Rattle.virt_top.specs.Outcome.{IsUnready, IsRefusedStop}
+use Rattle.virt_top.specs.Outcome.{CauseOfStop, IsCutShort, IsFinishedWork, IsPreparedWork, IsStop, IsSummary, LeavesTarget, Never, PrintsUntil, IsUnready, IsEarlyStop, IsRefusedStop, Untouched}
 use Rattle.virt_top.specs.Verdict.{sectors_of, IsServedTable, IsJudged}
 
 -- a refusal of the work for a table that is served
@@ -35,3 +39,65 @@ unready_judged source target SourceDevice judged = tt
 unready_judged source target TargetDevice judged = judged
 unready_judged source target Memory judged = tt
 unready_judged source target Printing judged = judged
+
+-- what isn't ready stops early
+pub early_of : (source target : List ℕ) (stop : Stop) → IsUnready source target stop → IsEarlyStop source target stop
+early_of source target NotYet unready = unready
+early_of source target (Source fault) unready = unready
+early_of source target (Unplanned fault) unready = unready
+early_of source target SourceDevice unready = tt
+early_of source target TargetDevice unready = tt
+early_of source target Memory unready = tt
+early_of source target Printing unready = unready
+
+-- a disk that was only read after it was asked for
+pub untouched_read : (name : List ℕ) (mode : Mode) (image mid new : List ℕ) (old asked log : Log) → Untouched name mode image mid old asked → new ≡ mid → log ≡ asked → Untouched name mode image new old log
+untouched_read name mode image mid new old asked log was same same_log =
+    let Log_is : Log → Type 0 = λ l. (l ≡ old) ⊎ Asked old l name mode in
+    record { held = same ∙ was.held; log = subst Log_is (sym same_log) was.log }
+
+-- a stop after the first line is a device's or a sink's
+pub stop_of_begun : (source target : List ℕ) (stop : Stop) → LeavesTarget Never stop → IsStop source target stop
+stop_of_begun source target NotYet begun = absurd begun
+stop_of_begun source target (Source fault) begun = absurd begun
+stop_of_begun source target (Unplanned fault) begun = absurd begun
+stop_of_begun source target Memory begun = absurd begun
+stop_of_begun source target SourceDevice begun = tt
+stop_of_begun source target TargetDevice begun = tt
+stop_of_begun source target Printing begun = tt
+
+-- counts that rose since a later moment rose since an earlier one
+pub cause_since : (s s' s'' t t' t'' : ℕ) (out : Type 0) (stop : Stop) → s ≤ s' → t ≤ t' → CauseOfStop (Rose s' s'') (Rose t' t'') out stop → CauseOfStop (Rose s s'') (Rose t t'') out stop
+cause_since s s' s'' t t' t'' out SourceDevice low high caused = omega (arith, caused)
+cause_since s s' s'' t t' t'' out TargetDevice low high caused = omega (arith, caused)
+cause_since s s' s'' t t' t'' out Printing low high caused = caused
+cause_since s s' s'' t t' t'' out NotYet low high caused = tt
+cause_since s s' s'' t t' t'' out (Source fault) low high caused = tt
+cause_since s s' s'' t t' t'' out (Unplanned fault) low high caused = tt
+cause_since s s' s'' t t' t'' out Memory low high caused = tt
+
+-- the summary of prepared work
+pub summary_of : (source target : List ℕ) (work : Work) (text : List ℕ) → IsPreparedWork source target work text → IsSummary source target text
+summary_of source target work text prepared = record { table = prepared.table; work = work; is_work = prepared.is_work; lines = prepared.lines }
+
+-- what was printed and left where the work was cut short
+pub until_of : (same done untouched : Type 0) (source target target' text old new : List ℕ) (stop : Stop) → IsSummary source target text → (same → untouched)
+    → (done → IsFinishedWork source target target') → IsCutShort same done text old new stop → PrintsUntil untouched source target target' old new stop
+until_of same done untouched source target target' text old new SourceDevice is_summary keep finish cut = inr (record { text = text; is_summary = is_summary; gained = cut })
+until_of same done untouched source target target' text old new TargetDevice is_summary keep finish cut = inr (record { text = text; is_summary = is_summary; gained = cut })
+until_of same done untouched source target target' text old new Printing is_summary keep finish cut = elim cut [
+  | inl before ↦ inl (keep before.0, record { text = text; is_summary = is_summary; gained = before.1 })
+  | inr after ↦ inr (finish after.0, record { text = text; is_summary = is_summary; gained = after.1 })
+]
+until_of same done untouched source target target' text old new NotYet is_summary keep finish cut = absurd cut
+until_of same done untouched source target target' text old new (Source fault) is_summary keep finish cut = absurd cut
+until_of same done untouched source target target' text old new (Unplanned fault) is_summary keep finish cut = absurd cut
+until_of same done untouched source target target' text old new Memory is_summary keep finish cut = absurd cut
+
+-- work that is done on disks that hold what they held is the work that is due
+pub finished_of : (source source' target mid target' : List ℕ) (work : Work) (text : List ℕ) → source' ≡ source → mid ≡ target → IsPreparedWork source target work text
+    → IsDone work source' mid target' → IsFinishedWork source target target'
+finished_of source source' target mid target' work text same same_target prepared done =
+    let From : List ℕ → Type 0 = λ image. IsDone work image mid target' in
+    let On : List ℕ → Type 0 = λ image. IsDone work source image target' in
+    record { table = prepared.table; work = work; is_work = prepared.is_work; done = subst On same_target (subst From same done) }

@@ -1,5 +1,5 @@
 -- What is printed, byte by byte.
-use Rattle.std.specs.Prelude.{ℕ, ◌==◌, List, [], ◌∷◌, ◌++◌, codes, slice_index_or, Option, None, Some, Bool, ◌||◌, if◌then◌else◌}
+use Rattle.std.specs.Prelude.{◌≡◌, ◌≢◌, ℕ, ◌==◌, List, [], ◌∷◌, ◌++◌, codes, slice_index_or, Option, None, Some, Bool, ◌||◌, if◌then◌else◌}
 use Rattle.std.specs.List.{flat_map}
 use Rattle.std.specs.Fmt.{decimal}
 use Rattle.layout_plan.specs.declared.fault.NoPlan.{NoPlan}
@@ -12,6 +12,8 @@ use Rattle.mbr_table.specs.declared.slot.Slot.{Slot}
 use Rattle.resize_core.specs.Targets.{source_slot}
 use Rattle.virt_top.specs.declared.stop.SourceFault.{SourceFault}
 use Rattle.virt_top.specs.declared.stop.SourceFault.TheVariants.{TooLarge, NoSignature, Entry, Overlap}
+use Rattle.virt_top.specs.declared.stop.Stop.{Stop}
+use Rattle.virt_top.specs.declared.stop.Stop.TheVariants.{NotYet, Source, NoPlan as Unplanned, SourceDevice, TargetDevice, Memory as OutOfMemory, Printing}
 
 -- pieces of text, one after another
 abbrev pub joined : List (List ℕ) → List ℕ
@@ -74,3 +76,19 @@ lines_of slots plan = flat_map (part_line slots) plan.parts ++ extra_line plan.e
 -- the last line
 abbrev pub last_line : List ℕ
 last_line = codes "done\n"
+
+-- the line for each stop of a job
+abbrev pub stop_line : Stop → List ℕ
+stop_line NotYet = codes "virt-resize: not yet\n"
+stop_line (Source fault) = source_line fault
+stop_line (Unplanned fault) = plan_line fault
+stop_line SourceDevice = codes "virt-resize: source device\n"
+stop_line TargetDevice = codes "virt-resize: target device\n"
+stop_line OutOfMemory = codes "virt-resize: memory\n"
+stop_line Printing = codes "virt-resize: printing\n"
+
+-- the line for words that are no job: it begins with the tool, or with `virt` where they name none
+pub record IsNotYetLine (tool line : List ℕ) : Type 0 where
+  pub resize : tool ≡ codes "virt-resize" → line ≡ codes "virt-resize: not yet\n"
+  pub sparsify : tool ≡ codes "virt-sparsify" → line ≡ codes "virt-sparsify: not yet\n"
+  pub other : tool ≢ codes "virt-resize" → tool ≢ codes "virt-sparsify" → line ≡ codes "virt: not yet\n"

@@ -16,9 +16,9 @@ use Rattle.resize_core.specs.Transfers.{SameAsks}
 use Rattle.virt_top.specs.declared.stop.SourceFault.TheVariants.{Overlap as SharedSector}
 use Rattle.virt_top.specs.declared.stop.Stop.{Stop}
 use Rattle.virt_top.specs.declared.stop.Stop.TheVariants.{NotYet, Source, NoPlan as Unplanned, SourceDevice, TargetDevice, Memory, Printing}
-use Rattle.virt_top.specs.Lines.{lines_of, last_line}
-use Rattle.virt_top.specs.Verdict.{IsWork, IsUnserved, IsNoSource, HasNoPlanFor}
-use Rattle.virt_top.specs.Words.{IsJob, source_name, target_name}
+use Rattle.virt_top.specs.Lines.{lines_of, last_line, stop_line, IsNotYetLine}
+use Rattle.virt_top.specs.Verdict.{IsWork, IsDue, IsUnserved, IsNoSource, HasNoPlanFor}
+use Rattle.virt_top.specs.Words.{IsJob, source_name, target_name, word_at}
 
 -- a disk that was asked for at most once, by that name and mode, and not written, given up or created since
 pub record Untouched (name : List ℕ) (mode : Mode) (image image' : List ℕ) (old new : Log) : Type 0 where
@@ -131,3 +131,104 @@ IsDeviceStop _ = ⊥
 pub record IsSame (image image' : List ℕ) (old new : Log) : Type 0 where
   pub held : image' ≡ image
   pub log : new ≡ old
+
+-- why a job stops before it prints
+abbrev pub IsEarlyStop : List ℕ → List ℕ → Stop → Type 0
+IsEarlyStop source target TargetDevice = Unit {0}
+IsEarlyStop source target stop = IsUnready source target stop
+
+-- all lines of the work that is due were printed
+pub record PrintsAll (source target old new : List ℕ) : Type 0 where
+  pub text : List ℕ
+  pub is_summary : IsSummary source target text
+  pub gained : new ≡ old ++ text ++ last_line
+
+-- the summary was printed, and no more
+pub record PrintsSummary (source target old new : List ℕ) : Type 0 where
+  pub text : List ℕ
+  pub is_summary : IsSummary source target text
+  pub gained : new ≡ old ++ text
+
+-- a prefix of the summary was printed
+pub record PrintsSome (source target old new : List ℕ) : Type 0 where
+  pub text : List ℕ
+  pub is_summary : IsSummary source target text
+  pub gained : GainsPrefix text old new
+
+-- the summary and a prefix of the last line were printed
+pub record PrintsMost (source target old new : List ℕ) : Type 0 where
+  pub text : List ℕ
+  pub is_summary : IsSummary source target text
+  pub gained : GainsPrefix last_line (old ++ text) new
+
+-- what a stop leaves on standard output; where that failed, either the target is untouched and a prefix of the summary
+-- was printed, or the work is done and a prefix of the last line was printed
+abbrev pub PrintsUntil : Type 0 → List ℕ → List ℕ → List ℕ → List ℕ → List ℕ → Stop → Type 0
+PrintsUntil untouched source target target' old new SourceDevice = (new ≡ old) ⊎ PrintsSummary source target old new
+PrintsUntil untouched source target target' old new TargetDevice = (new ≡ old) ⊎ PrintsSummary source target old new
+PrintsUntil untouched source target target' old new Printing =
+    (untouched × PrintsSome source target old new) ⊎ (IsFinishedWork source target target' × PrintsMost source target old new)
+PrintsUntil untouched source target target' old new _ = new ≡ old
+
+-- the status of a stop
+abbrev pub status_of : Stop → ℕ
+status_of (Source fault) = 2
+status_of (Unplanned fault) = 4
+status_of SourceDevice = 5
+status_of TargetDevice = 6
+status_of Memory = 7
+status_of Printing = 8
+status_of NotYet = 9
+
+-- a run that ended with this stop: it was due, and the target is as the stop leaves it
+pub record Stopped (words : List (List ℕ)) (source target : List ℕ) (untouched : Type 0) (stop : Stop) : Type 0 where
+  pub due : IsDue words source target stop
+  pub target_left : LeavesTarget untouched stop
+
+-- a run whose work is done
+pub record Done (words : List (List ℕ)) (source target target' : List ℕ) : Type 0 where
+  pub job : IsJob words
+  pub finished : IsFinishedWork source target target'
+
+-- what a run's status says: the work that is due is done, or the run stopped as the status says
+abbrev pub Outcome : List (List ℕ) → List ℕ → List ℕ → List ℕ → Type 0 → ℕ → Type 0
+Outcome words source target target' untouched status =
+    ((status ≡ 0) × Done words source target target')
+    ⊎ ((stop : Stop) × (status ≡ status_of stop) × Stopped words source target untouched stop)
+
+-- what a run printed
+abbrev pub Printed : Type 0 → List ℕ → List ℕ → List ℕ → List ℕ → List ℕ → ℕ → Type 0
+Printed untouched source target target' old new status =
+    ((status ≡ 0) × PrintsAll source target old new)
+    ⊎ ((stop : Stop) × (status ≡ status_of stop) × PrintsUntil untouched source target target' old new stop)
+
+-- a line was told, or standard error failed and a prefix of it was
+abbrev pub Tells : Type 0 → List ℕ → List ℕ → List ℕ → Type 0
+Tells rose line old new = (new ≡ old ++ line) ⊎ (rose × GainsPrefix line old new)
+
+-- the line of a stop is told
+abbrev pub TellsStop : List (List ℕ) → Type 0 → List ℕ → List ℕ → Stop → Type 0
+TellsStop words rose old new NotYet = (line : List ℕ) × ((IsJob words × (line ≡ stop_line NotYet)) ⊎ ((IsJob words → ⊥) × IsNotYetLine (word_at words 0) line)) × Tells rose line old new
+TellsStop words rose old new stop = Tells rose (stop_line stop) old new
+
+-- what a run tells on standard error: nothing where its work is done, else the line of a stop that is due
+abbrev pub Reported : List (List ℕ) → List ℕ → List ℕ → Type 0 → List ℕ → List ℕ → ℕ → Type 0
+Reported words source target rose old new status =
+    ((status ≡ 0) × (new ≡ old))
+    ⊎ ((stop : Stop) × (status ≡ status_of stop) × IsDue words source target stop × TellsStop words rose old new stop)
+
+-- the cause of a status: which count rose
+pub record CauseOfStatus (source_rose target_rose out_rose : Type 0) (status : ℕ) : Type 0 where
+  pub source_device : status ≡ 5 → source_rose
+  pub target_device : status ≡ 6 → target_rose
+  pub printing : status ≡ 8 → out_rose
+
+-- a stop before anything is written, whose line takes memory
+abbrev pub IsRefusal : Stop → Type 0
+IsRefusal (Source fault) = Unit {0}
+IsRefusal (Unplanned fault) = Unit {0}
+IsRefusal _ = ⊥
+
+-- the stop that is told in place of one: itself, or want of memory for its line
+abbrev pub IsToldFor : Stop → Stop → Type 0
+IsToldFor stop told = (told ≡ stop) ⊎ ((told ≡ Memory) × IsRefusal stop)

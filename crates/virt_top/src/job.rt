@@ -8,11 +8,12 @@ ghost use Rattle.disk_base.specs.Log.{Asked, IsWritable};
 ghost use Rattle.disk_base.specs.declared.device.Mode.TheVariants.{Read as ToRead, Change as ToChange};
 ghost use Rattle.virt_top.specs.Verdict.{CausedBySource, sectors_of};
 ghost use Rattle.virt_top.specs.Lines.{lines_of};
-ghost use Rattle.virt_top.specs.Outcome.{IsUnready, IsRefusedStop, IsPreparedWork, stop_of_refusal};
+ghost use Rattle.virt_top.specs.Outcome.{AskedOnce, IsFinishedWork, IsStop, LeavesTarget, PrintsAll, PrintsUntil, CauseOfStop, IsDeviceStop, IsEarlyStop, Never, Untouched, IsUnready, IsRefusedStop, IsPreparedWork, stop_of_refusal};
 
 use crate::judging::judge;
 use crate::lines::summary;
 use crate::stop::{SourceFault, Stop};
+use crate::writing::write;
 use disk_base::{Blocks, Disk, Mode, Sink};
 use mbr_table::Mbr;
 use resize_core::{MbrRefused, Ready, prepare_mbr};
@@ -121,4 +122,79 @@ fn prepare<S: Blocks>(alloc: Global, source: &mut S, sectors: u64) -> Result<Pre
     let mbr = judge(alloc, source)?;
     let prepared = prepare_for(alloc, source, &mbr, sectors)?;
     Ok(prepared)
+}
+
+// Attaches the source to be read and the target to be changed.
+fn attach_both<S: Disk, T: Disk>(
+    source_name: &str,
+    target_name: &str,
+    source: &mut S,
+    target: &mut T,
+) -> Result<(), Stop>
+    ensures source { IsTrue S.tells → Untouched source_name.now ToRead (S.image source.old) (S.image source.new) (S.log source.old) (S.log source.new) }
+    ensures target { IsTrue T.tells → Untouched target_name.now ToChange (T.image target.old) (T.image target.new) (T.log target.old) (T.log target.new) }
+    ensures writable { OnOk result (IsWritable (T.attached target.new)) }
+    ensures device { IfErr result IsDeviceStop }
+    ensures later { S.faults source.old ≤ S.faults source.new }
+    ensures target_later { T.faults target.old ≤ T.faults target.new }
+    ensures cause { IfErr result (CauseOfStop (Rose (S.faults source.old) (S.faults source.new)) (Rose (T.faults target.old) (T.faults target.new)) Never) }
+{
+    source
+        .attach(source_name.as_bytes(), Mode::Read)
+        .map_err(|_| Stop::SourceDevice)?;
+    target
+        .attach(target_name.as_bytes(), Mode::Change)
+        .map_err(|_| Stop::TargetDevice)?;
+    Ok(())
+}
+
+// Attaches both disks and prepares the work that is due.
+fn begin<S: Disk, T: Disk>(
+    alloc: Global,
+    source_name: &str,
+    target_name: &str,
+    source: &mut S,
+    target: &mut T,
+) -> Result<Prepared, Stop>
+    ensures source { IsTrue S.tells → Untouched source_name.now ToRead (S.image source.old) (S.image source.new) (S.log source.old) (S.log source.new) }
+    ensures target { IsTrue T.tells → Untouched target_name.now ToChange (T.image target.old) (T.image target.new) (T.log target.old) (T.log target.new) }
+    ensures writable { OnOk result (IsWritable (T.attached target.new)) }
+    ensures work { IsTrue S.tells → IsTrue T.tells → IfOk result (λ prepared. IsPreparedWork (S.image source.old) (T.image target.old) prepared.ready (string_bytes prepared.summary)) }
+    ensures stop { IsTrue S.tells → IsTrue T.tells → IfErr result (IsEarlyStop (S.image source.old) (T.image target.old)) }
+    ensures from { IfOk result (λ prepared. S.size source.new ≡ prepared.ready.source_sectors) }
+    ensures to { IfOk result (λ prepared. T.size target.new ≡ prepared.ready.target_sectors) }
+    ensures buffer { IfOk result (λ prepared. length prepared.buffer.items ≡ 1048576) }
+    ensures later { S.faults source.old ≤ S.faults source.new }
+    ensures target_later { T.faults target.old ≤ T.faults target.new }
+    ensures cause { IfErr result (CauseOfStop (Rose (S.faults source.old) (S.faults source.new)) (Rose (T.faults target.old) (T.faults target.new)) Never) }
+{
+    attach_both(source_name, target_name, source, target)?;
+    let prepared = prepare(alloc, source, target.sectors())?;
+    Ok(prepared)
+}
+
+/// The job: attaches the disks, prepares the work, prints its summary, carries it out and prints the last
+/// line.
+pub fn copy<S: Disk, T: Disk, O: Sink>(
+    alloc: Global,
+    source_name: &str,
+    target_name: &str,
+    source: &mut S,
+    target: &mut T,
+    out: &mut O,
+) -> Result<(), Stop>
+    ensures source { IsTrue S.tells → Untouched source_name.now ToRead (S.image source.old) (S.image source.new) (S.log source.old) (S.log source.new) }
+    ensures asked { IsTrue T.tells → AskedOnce target_name.now ToChange (T.log target.old) (T.log target.new) }
+    ensures target { IsTrue T.tells → IfErr result (LeavesTarget (Untouched target_name.now ToChange (T.image target.old) (T.image target.new) (T.log target.old) (T.log target.new))) }
+    ensures done { IsTrue S.tells → IsTrue T.tells → OnOk result (IsFinishedWork (S.image source.old) (T.image target.old) (T.image target.new)) }
+    ensures stop { IsTrue S.tells → IsTrue T.tells → IfErr result (IsStop (S.image source.old) (T.image target.old)) }
+    ensures printed { IsTrue S.tells → IsTrue T.tells → IsTrue O.tells_text → OnOk result (PrintsAll (S.image source.old) (T.image target.old) (O.text out.old) (O.text out.new)) }
+    ensures cut_short { IsTrue S.tells → IsTrue T.tells → IsTrue O.tells_text → IfErr result (PrintsUntil (Untouched target_name.now ToChange (T.image target.old) (T.image target.new) (T.log target.old) (T.log target.new)) (S.image source.old) (T.image target.old) (T.image target.new) (O.text out.old) (O.text out.new)) }
+    ensures cause { IfErr result (CauseOfStop (Rose (S.faults source.old) (S.faults source.new)) (Rose (T.faults target.old) (T.faults target.new)) (Rose (O.sink_faults out.old) (O.sink_faults out.new))) }
+{
+    let mut prepared = begin(alloc, source_name, target_name, source, target)?;
+    let summary = prepared.summary.as_bytes();
+    let buffer = prepared.buffer.as_mut_slice();
+    write(&prepared.ready, summary, source, target, out, buffer)?;
+    Ok(())
 }

@@ -1,19 +1,70 @@
-//! virt-resize and virt-sparsify.
+//! virt-resize and virt-sparsify: the program.
+//!
+//! It makes the devices, a disk over each of two files and a sink over each of two streams, and calls
+//! [`run::run`], whose contract says what the program does. `specs/Outcome.antt` says it in words of disks
+//! and text. The files and streams themselves are trusted.
 #![tactic(auto)]
 
 mod files;
 mod job;
 mod judging;
 mod lines;
+mod report;
+mod run;
 mod stop;
 mod streams;
 mod words;
 mod writing;
 
+use disk_base::Sink;
 use files::FileDisk;
+use run::run;
+use std::alloc::{AllocError, Global};
+use std::env;
+use std::process::ExitCode;
 use streams::StdSink;
 
-fn main(rt: HostRuntime) {
-    let _source = FileDisk::new(&rt);
-    let _out = StdSink::new(rt.stdout());
+// The words of the command line after the program's own name.
+fn words_of(rt: &HostRuntime, alloc: Global) -> Result<Vec<String>, Failure> {
+    let mut words = Vec::new(alloc);
+    let args = env::args(rt).map_err(|_| Failure::Words)?;
+    for word in args.skip(1) {
+        words.push(word).map_err(|_| Failure::Memory)?;
+    }
+    Ok(words)
+}
+
+// Why there are no words to run.
+#[derive(Clone, Copy, Debug, PartialEq, Eq)]
+enum Failure {
+    Words,
+    Memory,
+}
+
+fn main(rt: HostRuntime) -> ExitCode {
+    let alloc = rt.alloc();
+    let mut out = StdSink::new(rt.stdout());
+    let mut err = StdSink::new(rt.stderr());
+    let words = match words_of(&rt, alloc) {
+        Ok(words) => words,
+        Err(Failure::Words) => {
+            let _ = err.write(b"virt: usage: Tool\n");
+            return ExitCode::from(1);
+        }
+        Err(Failure::Memory) => {
+            let _ = err.write(b"virt: memory\n");
+            return ExitCode::from(7);
+        }
+    };
+    let mut source = FileDisk::new(&rt);
+    let mut target = FileDisk::new(&rt);
+    let status = run(
+        alloc,
+        words.as_slice(),
+        &mut source,
+        &mut target,
+        &mut out,
+        &mut err,
+    );
+    ExitCode::from(status)
 }

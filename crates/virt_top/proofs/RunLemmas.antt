@@ -1,0 +1,55 @@
+-- From what a job answers to what a run says.
+use Rattle.std.proofs.Common.{◌≡◌, ◌⊎◌, inl, inr, ℕ, List, refl, sym, subst}
+use Rattle.disk_base.specs.declared.device.Mode.{Mode}
+use Rattle.disk_base.specs.Log.{Log}
+use Rattle.resize_core.proofs.Copies.{same_asks_here}
+use Rattle.virt_top.specs.declared.stop.Stop.{Stop}
+use Rattle.virt_top.specs.declared.stop.Stop.TheVariants.{NotYet, Source, NoPlan as Unplanned, SourceDevice, TargetDevice, Memory, Printing}
+use Rattle.virt_top.specs.Lines.{stop_line}
+use Rattle.virt_top.specs.Outcome.{AskedOnce, IsRefusal, IsStop, IsToldFor, LeavesTarget, Stopped, Tells, TellsStop}
+use Rattle.virt_top.specs.Verdict.{IsDue}
+use Rattle.virt_top.specs.Words.{IsJob}
+
+-- a disk that nobody asked for
+pub never_asked : (name : List ℕ) (mode : Mode) (log : Log) → AskedOnce name mode log log
+never_asked name mode log = record { asked = log; log = inl refl; since = same_asks_here log }
+
+-- what a job stops with is due
+pub due_of : (words : List (List ℕ)) (source target : List ℕ) (stop : Stop) → IsJob words → IsStop source target stop → IsDue words source target stop
+due_of words source target NotYet job stopped = inr (job, stopped)
+due_of words source target (Source fault) job stopped = (job, stopped)
+due_of words source target (Unplanned fault) job stopped = (job, stopped)
+due_of words source target SourceDevice job stopped = job
+due_of words source target TargetDevice job stopped = job
+due_of words source target Memory job stopped = tt
+due_of words source target Printing job stopped = job
+
+-- a refusal leaves the target untouched
+pub refusal_keeps : (untouched : Type 0) (stop : Stop) → IsRefusal stop → LeavesTarget untouched stop → untouched
+refusal_keeps untouched (Source fault) refusal left = left
+refusal_keeps untouched (Unplanned fault) refusal left = left
+refusal_keeps untouched NotYet refusal left = absurd refusal
+refusal_keeps untouched SourceDevice refusal left = absurd refusal
+refusal_keeps untouched TargetDevice refusal left = absurd refusal
+refusal_keeps untouched Memory refusal left = absurd refusal
+refusal_keeps untouched Printing refusal left = absurd refusal
+
+-- the stop that is told
+pub stopped_of : (words : List (List ℕ)) (source target : List ℕ) (untouched : Type 0) (stop told : Stop) → IsJob words → IsStop source target stop
+    → LeavesTarget untouched stop → IsToldFor stop told → Stopped words source target untouched told
+stopped_of words source target untouched stop told job stopped left for =
+    let Is : Stop → Type 0 = λ one. Stopped words source target untouched one in
+    elim for [
+      | inl same ↦ subst Is (sym same) (record { due = due_of words source target stop job stopped; target_left = left })
+      | inr memory ↦ subst Is (sym memory.0) (record { due = tt; target_left = refusal_keeps untouched stop memory.1 left })
+    ]
+
+-- its line
+pub tells_of : (words : List (List ℕ)) (rose : Type 0) (old new : List ℕ) (told : Stop) → IsJob words → Tells rose (stop_line told) old new → TellsStop words rose old new told
+tells_of words rose old new NotYet job tells = (stop_line NotYet, inl (job, refl), tells)
+tells_of words rose old new (Source fault) job tells = tells
+tells_of words rose old new (Unplanned fault) job tells = tells
+tells_of words rose old new SourceDevice job tells = tells
+tells_of words rose old new TargetDevice job tells = tells
+tells_of words rose old new Memory job tells = tells
+tells_of words rose old new Printing job tells = tells
