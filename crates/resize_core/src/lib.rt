@@ -22,3 +22,6 @@ pub use preparing::prepare_mbr;
 pub use ready::Ready;
 pub use refusal::MbrRefused;
 pub use transfer::Transfer;
+
+#[cfg(test)]
+mod tests;
