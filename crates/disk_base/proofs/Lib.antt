@@ -1,1 +1,3 @@
+pub mod Checksums
 pub mod Images
+pub mod Polynomials

@@ -1,3 +1,4 @@
+pub mod Checksum
 pub mod Faults
 pub mod Image
 pub mod Log

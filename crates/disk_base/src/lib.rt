@@ -3,18 +3,22 @@
 //! It promises upwards: the traits [`Blocks`], [`Disk`] and [`Sink`], whose clauses say what each call
 //! does to what a disk holds, to its log and to its count of faults, so that code which is generic over
 //! them is proved once for every device; doubles in memory, [`MemDisk`] and [`MemSink`], which tell
-//! everything and fail exactly where they are told to; and the small collections [`List`] and [`Name`].
+//! everything and fail exactly where they are told to; the small collections [`List`] and [`Name`]; and
+//! [`crc32`], a checksum whose value a definition by polynomials fixes.
 //!
 //! It stands on std alone. A disk is a list of bytes, whole sectors of 512; `specs/Image.antt` has the
 //! words on its ranges, and `proofs/Images.antt` the facts about them that the crates above cite.
 #![tactic(auto)]
 
+mod checksum;
+mod checksum_table;
 mod collections;
 mod device;
 mod memory;
 mod memory_sink;
 mod output;
 
+pub use checksum::crc32;
 pub use collections::{List, Name};
 pub use device::{Ask, Blocks, DeviceFault, Disk, Failed, Mode, SECTOR};
 pub use memory::{MemDisk, MemLimits};

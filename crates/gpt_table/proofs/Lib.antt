@@ -1,0 +1,5 @@
+pub mod Entries
+pub mod Headers
+pub mod Puts
+pub mod Readings
+pub mod Written

@@ -1,0 +1,4 @@
+pub mod Entry
+pub mod Header
+pub mod Gpt
+pub mod Reading
