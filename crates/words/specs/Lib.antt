@@ -1,3 +1,6 @@
+pub mod Items
 pub mod Numbers
+pub mod Options
 pub mod Sizes
 pub mod Spelling
+pub mod Usage

@@ -1,8 +1,13 @@
 //! The command line of both tools.
 #![tactic(auto)]
 
+mod faults;
+mod items;
 mod job;
+mod options;
 mod size;
 mod spelling;
+mod usage;
 
 pub use job::{Job, LvWish, ResizeJob, SparsifyJob, Unknown, VolumeName, VolumeWish};
+pub use usage::Usage;

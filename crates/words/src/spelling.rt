@@ -1,6 +1,6 @@
 //! What the values of the options spell.
 ghost use Rattle.std.specs.List.{list_all};
-ghost use Rattle.std.specs.Prelude.{◌≡◌, ℕ, ◌+◌, ◌≤◌, ◌<◌, ◌==◌, ◌*◌, ◌^◌, IfSome, IfOk, IsTrue, MatchOption, length, position};
+ghost use Rattle.std.specs.Prelude.{◌≡◌, ℕ, ◌+◌, ◌≤◌, ◌<◌, ◌==◌, ◌*◌, ◌^◌, IfSome, IfOk, IsTrue, MatchOption, is_some, length, position};
 ghost use Rattle.words.specs.Numbers.{is_digit, number_of, digits_of, whole_number_of};
 ghost use Rattle.words.specs.Spelling.{without_dev, begins_with_disk, part_of, is_name_byte, is_name, parted_at, lv_of, volume_of, is_same_volume, alignment_of, align_first_of, unknown_of};
 
@@ -171,6 +171,14 @@ pub fn volume(alloc: Global, bytes: &[u8]) -> Result<Option<VolumeName>, AllocEr
     }
     let group = Name::of(alloc, bytes)?;
     Ok(Some(VolumeName::Group(group)))
+}
+
+/// Whether `bytes` name a volume.
+#[tactic(auto, unfolding(crate::specs::Spelling::volume_of))]
+pub fn is_volume(bytes: &[u8]) -> bool
+    ensures { result ≡ is_some (volume_of bytes.now) }
+{
+    part(bytes).is_some() || lv(bytes).is_some() || is_group_name(bytes)
 }
 
 /// Whether two names are those of one volume.
