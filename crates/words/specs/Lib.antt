@@ -1,4 +1,5 @@
 pub mod Items
+pub mod JobOf
 pub mod Numbers
 pub mod Options
 pub mod Sizes

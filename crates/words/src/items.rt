@@ -148,7 +148,8 @@ fn is_over(ended: bool, item: &Item) -> bool
     ended || matches!(item, Item::Ends)
 }
 
-fn word_at(words: &[String], at: usize) -> Option<&[u8]>
+/// The word at a place.
+pub fn word_at(words: &[String], at: usize) -> Option<&[u8]>
     ensures { option_copied result ≡ slice_get (map string_bytes words.now) at }
 {
     if at < words.len() {

@@ -5,9 +5,12 @@ mod faults;
 mod items;
 mod job;
 mod options;
+mod reader;
 mod size;
 mod spelling;
 mod usage;
+mod wishes;
 
 pub use job::{Job, LvWish, ResizeJob, SparsifyJob, Unknown, VolumeName, VolumeWish};
 pub use usage::Usage;
+pub use reader::read_words;

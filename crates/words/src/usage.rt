@@ -1,8 +1,4 @@
 //! What may be wrong with the words.
-ghost use Rattle.std.specs.Prelude.{◌≡◌};
-ghost use Rattle.words.specs.declared.usage.Usage.TheVariants as faults;
-
-use std::alloc::AllocError;
 use thiserror::Error;
 
 /// Why the words are no job. A place is the index of a word, with the tool's own at 0.
@@ -39,12 +35,4 @@ pub enum Usage {
     /// Memory was refused.
     #[error("Memory")]
     Memory,
-}
-
-impl From<AllocError> for Usage {
-    ghost from_gives = { λ _ fault. fault ≡ faults.Memory };
-
-    fn from(_error: AllocError) -> Usage {
-        Usage::Memory
-    }
 }
