@@ -19,7 +19,7 @@ left tool over place word next rest false = refl
 
 items_first : (tool : Tool) (ended : Bool) (place : ℕ) (word : List ℕ) (rest : List (List ℕ))
     → let item = item_at tool ended place word (slice_get rest 0) in
-      items_of tool ended place (word ∷ rest) ≡ item ∷ items_of tool (ended || is_end item) (place + words_in item) (drop (words_in item) (word ∷ rest))
+    items_of tool ended place (word ∷ rest) ≡ item ∷ items_of tool (ended || is_end item) (place + words_in item) (drop (words_in item) (word ∷ rest))
 unfolding items_of
 items_first tool ended place word [] = let item = item_at tool ended place word None in ap (λ items. item ∷ items) (none_left tool (ended || is_end item) place word (holds_next item))
 items_first tool ended place word (next ∷ rest) = let item = item_at tool ended place word (Some next) in ap (λ items. item ∷ items) (left tool (ended || is_end item) place word next rest (holds_next item))
@@ -37,7 +37,7 @@ next_at (w ∷ words) (suc at) = next_at words at
 
 pub items_step : (tool : Tool) (ended : Bool) (place : ℕ) (words : List (List ℕ)) (at : ℕ) (word : List ℕ) → slice_get words at ≡ Some word
     → let item = item_at tool ended place word (slice_get words (at + 1)) in
-      items_of tool ended place (drop at words) ≡ item ∷ items_of tool (ended || is_end item) (place + words_in item) (drop (at + words_in item) words)
+    items_of tool ended place (drop at words) ≡ item ∷ items_of tool (ended || is_end item) (place + words_in item) (drop (at + words_in item) words)
 items_step tool ended place words at word h =
     let f : drop at words ≡ word ∷ drop (suc at) words = first_at words at word h in
     let n : slice_get (drop (suc at) words) 0 ≡ slice_get words (at + 1) = next_at words (suc at) ∙ ap (slice_get words) (omega arith) in

@@ -88,7 +88,7 @@ unfoldable pub layout_of : List Item → Layout
 layout_of items = record {
   align = setting 128 alignment_of (value_of Alignment items);
   always = setting false align_first_of (value_of AlignFirst items);
-  extra = not (stands_in NoExtraPartition items)
+  extra = not (stands_in NoExtraPartition items);
 }
 
 unfoldable pub resize_job_of : List Item → List ℕ → List ℕ → ResizeJob
@@ -103,7 +103,7 @@ resize_job_of items source target = record {
   unknown = setting Warn unknown_of (value_of UnknownFilesystems items);
   sparse = not (stands_in NoSparse items);
   dry = stands_in DryRun items;
-  quiet = stands_in Quiet items
+  quiet = stands_in Quiet items;
 }
 
 unfoldable pub sparsify_job_of : List Item → List ℕ → Option (List ℕ) → SparsifyJob
@@ -112,7 +112,7 @@ sparsify_job_of items source target = record {
   target = target;
   ignore = filter_map (volume_wish_of IgnoreVolume) items;
   zero = filter_map (volume_wish_of ZeroVolume) items;
-  quiet = stands_in Quiet items
+  quiet = stands_in Quiet items;
 }
 
 -- the source and the target, which may not be one text

@@ -22,39 +22,39 @@ row name option kind = (name, record { option = option; kind = kind })
 abbrev pub resize_options : List (List ℕ × Known)
 resize_options =
     row (codes "--expand") Expand Once
-  ∷ row (codes "--shrink") Shrink Once
-  ∷ row (codes "--resize") Resize Many
-  ∷ row (codes "--resize-force") ResizeForce Many
-  ∷ row (codes "--delete") Delete Many
-  ∷ row (codes "--ignore") Ignore Many
-  ∷ row (codes "--lv-expand") LvExpand Many
-  ∷ row (codes "--LV-expand") LvExpand Many
-  ∷ row (codes "--alignment") Alignment Once
-  ∷ row (codes "--align-first") AlignFirst Once
-  ∷ row (codes "--unknown-filesystems") UnknownFilesystems Once
-  ∷ row (codes "--format") Format Once
-  ∷ row (codes "--output-format") OutputFormat Once
-  ∷ row (codes "--no-extra-partition") NoExtraPartition Flag
-  ∷ row (codes "--no-copy-boot-loader") NoCopyBootLoader Flag
-  ∷ row (codes "--no-expand-content") NoExpandContent Flag
-  ∷ row (codes "--no-sparse") NoSparse Flag
-  ∷ row (codes "-n") DryRun Flag
-  ∷ row (codes "--dryrun") DryRun Flag
-  ∷ row (codes "--dry-run") DryRun Flag
-  ∷ row (codes "-q") Quiet Flag
-  ∷ row (codes "--quiet") Quiet Flag
-  ∷ []
+    ∷ row (codes "--shrink") Shrink Once
+    ∷ row (codes "--resize") Resize Many
+    ∷ row (codes "--resize-force") ResizeForce Many
+    ∷ row (codes "--delete") Delete Many
+    ∷ row (codes "--ignore") Ignore Many
+    ∷ row (codes "--lv-expand") LvExpand Many
+    ∷ row (codes "--LV-expand") LvExpand Many
+    ∷ row (codes "--alignment") Alignment Once
+    ∷ row (codes "--align-first") AlignFirst Once
+    ∷ row (codes "--unknown-filesystems") UnknownFilesystems Once
+    ∷ row (codes "--format") Format Once
+    ∷ row (codes "--output-format") OutputFormat Once
+    ∷ row (codes "--no-extra-partition") NoExtraPartition Flag
+    ∷ row (codes "--no-copy-boot-loader") NoCopyBootLoader Flag
+    ∷ row (codes "--no-expand-content") NoExpandContent Flag
+    ∷ row (codes "--no-sparse") NoSparse Flag
+    ∷ row (codes "-n") DryRun Flag
+    ∷ row (codes "--dryrun") DryRun Flag
+    ∷ row (codes "--dry-run") DryRun Flag
+    ∷ row (codes "-q") Quiet Flag
+    ∷ row (codes "--quiet") Quiet Flag
+    ∷ []
 
 abbrev pub sparsify_options : List (List ℕ × Known)
 sparsify_options =
     row (codes "--ignore") IgnoreVolume Many
-  ∷ row (codes "--zero") ZeroVolume Many
-  ∷ row (codes "--in-place") InPlace Flag
-  ∷ row (codes "--format") Format Once
-  ∷ row (codes "--convert") Convert Once
-  ∷ row (codes "-q") Quiet Flag
-  ∷ row (codes "--quiet") Quiet Flag
-  ∷ []
+    ∷ row (codes "--zero") ZeroVolume Many
+    ∷ row (codes "--in-place") InPlace Flag
+    ∷ row (codes "--format") Format Once
+    ∷ row (codes "--convert") Convert Once
+    ∷ row (codes "-q") Quiet Flag
+    ∷ row (codes "--quiet") Quiet Flag
+    ∷ []
 
 abbrev pub options_of : Tool → List (List ℕ × Known)
 options_of VirtResize = resize_options

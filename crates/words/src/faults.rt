@@ -4,8 +4,6 @@ ghost use Rattle.std.specs.Prelude.{◌≡◌, [], ◌==◌, if◌then◌else◌
 ghost use Rattle.std.specs.Str.{bytes_eq};
 ghost use Rattle.words.specs.Usage.{are_one, fault_of, first_fault, is_excluded, is_named, is_once, most_operands, names_volumes, operand_of, operands, option_fault, sized_fault, stands_in, value_fault, volume_fault, volume_in};
 
-use std::alloc::{AllocError, Global};
-
 use crate::items::Item;
 use crate::job::VolumeName;
 use crate::options::{Choice, Kind, Known, is_same_option};
@@ -14,6 +12,7 @@ use crate::spelling::{
     align_first, alignment, is_volume, lv, part, parted, read_unknown, same_volume, volume,
 };
 use crate::usage::Usage;
+use std::alloc::{AllocError, Global};
 
 fn is_option(option: Choice, item: &Item) -> bool
     ensures { result ≡ is_named option item.now }
@@ -209,11 +208,7 @@ fn operand_limit(earlier: &[Item]) -> usize
 }
 
 #[tactic(auto, unfolding(crate::specs::Usage::fault_of))]
-fn find_fault(
-    alloc: Global,
-    earlier: &[Item],
-    item: &Item,
-) -> Result<Option<Usage>, AllocError>
+fn find_fault(alloc: Global, earlier: &[Item], item: &Item) -> Result<Option<Usage>, AllocError>
     ensures { IfOk result (λ fault. fault ≡ fault_of earlier.now item.now) }
 {
     match item {

@@ -4,12 +4,10 @@ ghost use Rattle.std.specs.Prelude.{◌≡◌, ℕ, ◌+◌, ◌-◌, ◌^◌, �
 ghost use Rattle.words.specs.Items.{is_end, is_option, item_at, items_of, joined_item, option_item, taking_next, whole_item, words_in};
 ghost use Rattle.words.specs.Options.{option_named};
 
-use std::alloc::{AllocError, Global};
-
-use disk_base::Name;
-
 use crate::options::{Choice, Kind, Known, Tool, find_option};
 use crate::spelling::parted;
+use disk_base::Name;
+use std::alloc::{AllocError, Global};
 
 /// What one word, or an option with its value, says. A place is the index of a word.
 #[derive(Debug, Drop)]
@@ -72,12 +70,7 @@ fn whole(
     }
 }
 
-fn joined(
-    alloc: Global,
-    known: Option<Known>,
-    place: u64,
-    value: &[u8],
-) -> Result<Item, AllocError>
+fn joined(alloc: Global, known: Option<Known>, place: u64, value: &[u8]) -> Result<Item, AllocError>
     ensures { IfOk result (λ item. item ≡ joined_item known place value.now) }
 {
     match known {

@@ -34,7 +34,7 @@ pub struct ResizeJob {
     pub sparse: bool,
     /// Whether nothing is written at all.
     pub dry: bool,
-    /// Whether the summary is left out.
+    /// Whether nothing is printed.
     pub quiet: bool,
 }
 
@@ -68,7 +68,7 @@ pub struct SparsifyJob {
     pub ignore: List<VolumeWish>,
     /// The volumes whose contents are left out, in the order of the words.
     pub zero: List<VolumeWish>,
-    /// Whether the summary is left out.
+    /// Whether nothing is printed.
     pub quiet: bool,
 }
 

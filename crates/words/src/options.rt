@@ -56,7 +56,13 @@ pub struct Known {
 }
 
 /// The row of a table where `name` is its text, else what the rows below it gave.
-fn row_or(found: Option<Known>, name: &[u8], text: &[u8], option: Choice, kind: Kind) -> Option<Known>
+fn row_or(
+    found: Option<Known>,
+    name: &[u8],
+    text: &[u8],
+    option: Choice,
+    kind: Kind,
+) -> Option<Known>
     ensures { result ≡ (if bytes_eq name.now text.now then Some (record { option = option; kind = kind }) else found) }
 {
     if name == text {
@@ -88,19 +94,61 @@ fn resize_option(name: &[u8]) -> Option<Known>
     let found = row_or(found, name, b"--dryrun", Choice::DryRun, Kind::Flag);
     let found = row_or(found, name, b"-n", Choice::DryRun, Kind::Flag);
     let found = row_or(found, name, b"--no-sparse", Choice::NoSparse, Kind::Flag);
-    let found = row_or(found, name, b"--no-expand-content", Choice::NoExpandContent, Kind::Flag);
-    let found = row_or(found, name, b"--no-copy-boot-loader", Choice::NoCopyBootLoader, Kind::Flag);
-    let found = row_or(found, name, b"--no-extra-partition", Choice::NoExtraPartition, Kind::Flag);
-    let found = row_or(found, name, b"--output-format", Choice::OutputFormat, Kind::Once);
+    let found = row_or(
+        found,
+        name,
+        b"--no-expand-content",
+        Choice::NoExpandContent,
+        Kind::Flag,
+    );
+    let found = row_or(
+        found,
+        name,
+        b"--no-copy-boot-loader",
+        Choice::NoCopyBootLoader,
+        Kind::Flag,
+    );
+    let found = row_or(
+        found,
+        name,
+        b"--no-extra-partition",
+        Choice::NoExtraPartition,
+        Kind::Flag,
+    );
+    let found = row_or(
+        found,
+        name,
+        b"--output-format",
+        Choice::OutputFormat,
+        Kind::Once,
+    );
     let found = row_or(found, name, b"--format", Choice::Format, Kind::Once);
-    let found = row_or(found, name, b"--unknown-filesystems", Choice::UnknownFilesystems, Kind::Once);
-    let found = row_or(found, name, b"--align-first", Choice::AlignFirst, Kind::Once);
+    let found = row_or(
+        found,
+        name,
+        b"--unknown-filesystems",
+        Choice::UnknownFilesystems,
+        Kind::Once,
+    );
+    let found = row_or(
+        found,
+        name,
+        b"--align-first",
+        Choice::AlignFirst,
+        Kind::Once,
+    );
     let found = row_or(found, name, b"--alignment", Choice::Alignment, Kind::Once);
     let found = row_or(found, name, b"--LV-expand", Choice::LvExpand, Kind::Many);
     let found = row_or(found, name, b"--lv-expand", Choice::LvExpand, Kind::Many);
     let found = row_or(found, name, b"--ignore", Choice::Ignore, Kind::Many);
     let found = row_or(found, name, b"--delete", Choice::Delete, Kind::Many);
-    let found = row_or(found, name, b"--resize-force", Choice::ResizeForce, Kind::Many);
+    let found = row_or(
+        found,
+        name,
+        b"--resize-force",
+        Choice::ResizeForce,
+        Kind::Many,
+    );
     let found = row_or(found, name, b"--resize", Choice::Resize, Kind::Many);
     let found = row_or(found, name, b"--shrink", Choice::Shrink, Kind::Once);
     let found = row_or(found, name, b"--expand", Choice::Expand, Kind::Once);

@@ -7,11 +7,6 @@ ghost use Rattle.words.specs.Options.{tool_of};
 ghost use Rattle.words.specs.Spelling.{align_first_of, alignment_of, unknown_of};
 ghost use Rattle.words.specs.Usage.{first_fault};
 
-use std::alloc::{AllocError, Global};
-
-use disk_base::Name;
-use layout_plan::Layout;
-
 use crate::faults::{is_among, judge};
 use crate::items::{Item, divide, word_at};
 use crate::job::{Job, ResizeJob, SparsifyJob, Unknown};
@@ -19,6 +14,9 @@ use crate::options::{Choice, Tool, named_tool};
 use crate::spelling::{align_first, alignment, read_unknown};
 use crate::usage::Usage;
 use crate::wishes::{find_operand, find_value, read_lv_wishes, read_volume_wishes, read_wishes};
+use disk_base::Name;
+use layout_plan::Layout;
+use std::alloc::{AllocError, Global};
 
 /// The alignment where none is asked for, in sectors.
 const ALIGNMENT: u32 = 128;
@@ -115,7 +113,13 @@ fn sparsify_job(
     let ignore = read_volume_wishes(alloc, Choice::IgnoreVolume, items)?;
     let zero = read_volume_wishes(alloc, Choice::ZeroVolume, items)?;
     let quiet = is_among(Choice::Quiet, items);
-    Ok(SparsifyJob { source, target, ignore, zero, quiet })
+    Ok(SparsifyJob {
+        source,
+        target,
+        ignore,
+        zero,
+        quiet,
+    })
 }
 
 fn both(items: &[Item]) -> Result<(&[u8], &[u8]), Usage>

@@ -2,9 +2,8 @@
 ghost use Rattle.std.specs.Prelude.{◌≡◌, ℕ, ◌+◌, ◌*◌, ◌^◌, ◌≤◌, ◌<◌, IfSome};
 ghost use Rattle.words.specs.Sizes.{amount, behind_sign, percentage, sign_of, size_in, size_of, unit_of, unsigned_size};
 
-use layout_plan::Size;
-
 use crate::spelling::digits;
+use layout_plan::Size;
 
 /// The greatest percentage.
 const MOST_PERCENT: u64 = 999_999;

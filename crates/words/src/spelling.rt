@@ -4,11 +4,9 @@ ghost use Rattle.std.specs.Prelude.{◌≡◌, ℕ, ◌+◌, ◌≤◌, ◌<◌,
 ghost use Rattle.words.specs.Numbers.{is_digit, number_of, digits_of, whole_number_of};
 ghost use Rattle.words.specs.Spelling.{without_dev, begins_with_disk, part_of, is_name_byte, is_name, parted_at, lv_of, volume_of, is_same_volume, alignment_of, align_first_of, unknown_of};
 
-use std::alloc::{AllocError, Global};
-
-use disk_base::Name;
-
 use crate::job::{Unknown, VolumeName};
+use disk_base::Name;
+use std::alloc::{AllocError, Global};
 
 /// The greatest alignment, in sectors.
 const MOST_ALIGNMENT: u64 = 1_048_576;

@@ -5,16 +5,14 @@ ghost use Rattle.std.specs.Prelude.{◌≡◌, [], ◌++◌, IfOk, OnOk, slice_g
 ghost use Rattle.words.specs.JobOf.{lv_wish_of, sized, sized_wish, value_if, value_of, volume_wish_of, wish_for, wish_in, wish_of};
 ghost use Rattle.words.specs.Usage.{operands};
 
-use std::alloc::{AllocError, Global};
-
-use disk_base::{List, Name};
-use layout_plan::{Size, What, Wish};
-
 use crate::items::Item;
 use crate::job::{LvWish, VolumeWish};
 use crate::options::{Choice, is_same_option};
 use crate::size::read_size;
 use crate::spelling::{lv, part, parted, volume};
+use disk_base::{List, Name};
+use layout_plan::{Size, What, Wish};
+use std::alloc::{AllocError, Global};
 
 fn make_wish(what: What, place: u64, part: Option<u32>) -> Option<Wish>
     ensures { result ≡ wish_for what place part }
@@ -112,7 +110,11 @@ fn find_lv_wish(alloc: Global, item: &Item) -> Result<Option<LvWish>, AllocError
                 Some((group, lv)) => {
                     let group = Name::of(alloc, group)?;
                     let lv = Name::of(alloc, lv)?;
-                    Ok(Some(LvWish { place: *place, group, lv }))
+                    Ok(Some(LvWish {
+                        place: *place,
+                        group,
+                        lv,
+                    }))
                 }
             }
         }
@@ -146,7 +148,10 @@ fn find_volume_wish(
             }
             match volume(alloc, value.bytes())? {
                 None => Ok(None),
-                Some(volume) => Ok(Some(VolumeWish { place: *place, volume })),
+                Some(volume) => Ok(Some(VolumeWish {
+                    place: *place,
+                    volume,
+                })),
             }
         }
         _ => Ok(None),

@@ -20,7 +20,7 @@ loop-byte-preserved c =
     let byte : get_or ds i 0 < 256 = omega (arith, c.type_inv.digits i) in
     record {
       value = ap (λ n. 10 * n + c.from.result) c.loop-byte.invariant.value ∙ ap (λ d. 10 * number_of (take i ds) + d) is ∙ sym more;
-      small = omega (arith, next_power c.loop-byte.number (get_or ds i 0) i c.loop-byte.invariant.small byte)
+      small = omega (arith, next_power c.loop-byte.number (get_or ds i 0) i c.loop-byte.invariant.small byte);
     }
 
 pub returns-clause-value : goal.returns-clause-value
