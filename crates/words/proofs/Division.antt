@@ -1,9 +1,8 @@
 -- One step of the division into items.
-use Rattle.std.proofs.Common.{◌≡◌, ℕ, ◌+◌, ◌||◌, Bool, true, false, cond, List, [], ◌∷◌, Option, Some, None, drop, refl, ap, sym, ◌∙◌, slice_get, arith, add-one, suc, zero}
+use Rattle.std.proofs.Common.{◌≡◌, ℕ, ◌+◌, ◌||◌, Bool, true, false, cond, List, [], ◌∷◌, Option, Some, None, drop, refl, ap, sym, ◌∙◌, slice_get, arith, suc, zero}
 use Rattle.std.proofs.lemmas.Option.{none-some, same_Some}
 use Rattle.std.proofs.Math.Seq.{drop-drop}
 use Rattle.words.specs.declared.options.Tool.{Tool}
-use Rattle.words.specs.declared.items.Item.{Item}
 use Rattle.words.specs.Items.{item_at, items_of, holds_next, is_end, words_in}
 
 -- the items behind an item that begins with the last word

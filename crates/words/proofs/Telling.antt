@@ -1,5 +1,5 @@
 -- An answer that is a fault may be told.
-use Rattle.std.proofs.Common.{◌≡◌, Result, Ok, Err, refl}
+use Rattle.std.proofs.Common.{◌≡◌, Result, Err}
 use Rattle.words.specs.declared.job.Job.{Job}
 use Rattle.words.specs.declared.usage.Usage.{Usage}
 use Rattle.words.specs.declared.usage.Usage.TheVariants.{Tool, Unknown, Value, Missing, Extra, Excluded, Twice, Size, Same, Memory}

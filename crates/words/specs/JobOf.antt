@@ -1,5 +1,5 @@
 -- The job of a list of words.
-use Rattle.std.specs.Prelude.{ℕ, Bool, true, false, not, Option, Some, None, Result, Ok, Err, List, [], length, drop, slice_get, if◌then◌else◌, option_and_then, unwrap_or, ◌≡◌}
+use Rattle.std.specs.Prelude.{ℕ, Bool, true, false, not, Option, Some, None, Result, Ok, Err, List, [], drop, slice_get, if◌then◌else◌, option_and_then, unwrap_or, ◌≡◌}
 use Rattle.std.specs.List.{filter_map}
 use Rattle.std.specs.Str.{bytes_eq}
 use Rattle.layout_plan.specs.declared.wish.Wish.{Wish}
@@ -13,16 +13,15 @@ use Rattle.words.specs.declared.job.ResizeJob.{ResizeJob}
 use Rattle.words.specs.declared.job.SparsifyJob.{SparsifyJob}
 use Rattle.words.specs.declared.job.LvWish.{LvWish}
 use Rattle.words.specs.declared.job.VolumeWish.{VolumeWish}
-use Rattle.words.specs.declared.job.Unknown.{Unknown}
 use Rattle.words.specs.declared.job.Unknown.TheVariants.{Warn}
 use Rattle.words.specs.declared.usage.Usage.{Usage}
 use Rattle.words.specs.declared.usage.Usage.TheVariants as faults
 use Rattle.words.specs.declared.options.Tool.{Tool}
 use Rattle.words.specs.declared.options.Tool.TheVariants.{VirtResize, VirtSparsify}
 use Rattle.words.specs.declared.options.Choice.{Choice}
-use Rattle.words.specs.declared.options.Choice.TheVariants.{Expand, Shrink, Resize, ResizeForce, Delete, Ignore, LvExpand, Alignment, AlignFirst, UnknownFilesystems, Format, OutputFormat, NoExtraPartition, NoCopyBootLoader, NoExpandContent, NoSparse, DryRun, Quiet, IgnoreVolume, ZeroVolume, InPlace, Convert}
+use Rattle.words.specs.declared.options.Choice.TheVariants.{Expand, Shrink, Resize, ResizeForce, Delete, Ignore, LvExpand, Alignment, AlignFirst, UnknownFilesystems, NoExtraPartition, NoCopyBootLoader, NoExpandContent, NoSparse, DryRun, Quiet, IgnoreVolume, ZeroVolume, InPlace}
 use Rattle.words.specs.declared.items.Item.{Item}
-use Rattle.words.specs.declared.items.Item.TheVariants.{Plain, Spoiled, Valued, Bare, Stray, Ends, Operand}
+use Rattle.words.specs.declared.items.Item.TheVariants.{Valued}
 use Rattle.words.specs.Options.{same_option, tool_of}
 use Rattle.words.specs.Items.{items_of}
 use Rattle.words.specs.Sizes.{size_of}

@@ -1,5 +1,5 @@
 -- What a size spells: an optional sign, one to fifteen digits, and `%` or one of `b`, `K`, `M`, `G` and `T`.
-use Rattle.std.specs.Prelude.{ℕ, ◌-◌, ◌*◌, ◌^◌, ◌<◌, Option, Some, None, List, length, take, drop, nat_lt, nat_le, ◌==◌, if◌then◌else◌, slice_index, option_and_then}
+use Rattle.std.specs.Prelude.{ℕ, ◌-◌, ◌*◌, ◌^◌, Option, Some, None, List, length, take, drop, nat_lt, nat_le, ◌==◌, if◌then◌else◌, slice_index, option_and_then}
 use Rattle.layout_plan.specs.declared.wish.Size.{Size}
 use Rattle.layout_plan.specs.declared.wish.Size.TheVariants.{Bytes, More, Less, Percent, MorePercent, LessPercent}
 use Rattle.words.specs.declared.size.Sign.{Sign}

@@ -1,5 +1,5 @@
 -- What the values of the options spell: a partition, a logical volume, a volume, a size and the like.
-use Rattle.std.specs.Prelude.{ℕ, ◌+◌, ◌-◌, ◌*◌, ◌^◌, ◌&&◌, ◌||◌, Bool, true, false, Option, Some, None, List, length, take, drop, nat_lt, nat_le, ◌==◌, if◌then◌else◌, slice_index, position, codes, option_and_then}
+use Rattle.std.specs.Prelude.{ℕ, ◌+◌, ◌&&◌, ◌||◌, Bool, true, false, Option, Some, None, List, length, take, drop, nat_lt, nat_le, ◌==◌, if◌then◌else◌, position, codes, option_and_then}
 use Rattle.std.specs.List.{list_all, starts_with}
 use Rattle.std.specs.Str.{bytes_eq}
 use Rattle.std.specs.Prelude.{nat_eq}
@@ -7,7 +7,7 @@ use Rattle.words.specs.declared.job.VolumeName.{VolumeName}
 use Rattle.words.specs.declared.job.VolumeName.TheVariants.{Part, Lv, Group}
 use Rattle.words.specs.declared.job.Unknown.{Unknown}
 use Rattle.words.specs.declared.job.Unknown.TheVariants.{Ignore, Warn, Error}
-use Rattle.words.specs.Numbers.{is_digit, digits_of, whole_number_of}
+use Rattle.words.specs.Numbers.{is_digit, whole_number_of}
 
 -- what stands behind a leading `/dev/`, or all of it
 abbrev pub without_dev : List ℕ → List ℕ

@@ -1,14 +1,14 @@
 -- What is wrong with an item, by itself and by the items before it.
-use Rattle.std.specs.Prelude.{ℕ, ◌&&◌, ◌||◌, Bool, true, false, not, Option, Some, None, List, [], ◌∷◌, ◌++◌, length, ◌==◌, nat_lt, if◌then◌else◌, is_some, codes}
+use Rattle.std.specs.Prelude.{ℕ, ◌&&◌, ◌||◌, Bool, true, false, Option, Some, None, List, [], ◌∷◌, ◌++◌, length, nat_lt, if◌then◌else◌, codes}
 use Rattle.std.specs.List.{list_any, filter_map}
 use Rattle.std.specs.Str.{bytes_eq}
 use Rattle.words.specs.declared.job.VolumeName.{VolumeName}
 use Rattle.words.specs.declared.usage.Usage.{Usage}
 use Rattle.words.specs.declared.usage.Usage.TheVariants.{Unknown, Value, Extra, Excluded, Twice, Size}
 use Rattle.words.specs.declared.options.Choice.{Choice}
-use Rattle.words.specs.declared.options.Choice.TheVariants.{Expand, Shrink, Resize, ResizeForce, Delete, Ignore, LvExpand, Alignment, AlignFirst, UnknownFilesystems, Format, OutputFormat, NoExtraPartition, NoCopyBootLoader, NoExpandContent, NoSparse, DryRun, Quiet, IgnoreVolume, ZeroVolume, InPlace, Convert}
+use Rattle.words.specs.declared.options.Choice.TheVariants.{Expand, Shrink, Resize, ResizeForce, Delete, Ignore, LvExpand, Alignment, AlignFirst, UnknownFilesystems, Format, OutputFormat, IgnoreVolume, ZeroVolume, InPlace, Convert}
 use Rattle.words.specs.declared.options.Kind.{Kind}
-use Rattle.words.specs.declared.options.Kind.TheVariants.{Flag, Once, Many}
+use Rattle.words.specs.declared.options.Kind.TheVariants.{Once}
 use Rattle.words.specs.declared.options.Known.{Known}
 use Rattle.words.specs.declared.items.Item.{Item}
 use Rattle.words.specs.declared.items.Item.TheVariants.{Plain, Spoiled, Valued, Bare, Stray, Ends, Operand}

@@ -1,4 +1,4 @@
-use Rattle.std.proofs.Common.{◌≡◌, ℕ, ◌+◌, map, drop, false, slice_get, string_bytes, List, [], ◌∷◌, ◌++◌, Some, None, ap, sym, ◌∙◌, append_assoc, append-nil, arith}
+use Rattle.std.proofs.Common.{◌≡◌, ◌+◌, map, drop, slice_get, string_bytes, [], ◌∷◌, ◌++◌, ap, sym, ◌∙◌, append_assoc, append-nil}
 use Rattle.words.proofs.Division.{items_step, none_behind}
 use Rattle.words.specs.Items.{item_at, items_of}
 use Rattle.words.proofs.items.divide.Goals as goal

@@ -1,7 +1,7 @@
-use Rattle.std.proofs.Common.{rules, ◌≡◌, ℕ, ◌≤◌, ◌<◌, ◌*◌, ◌^◌, ◌+◌, ◌-◌, length, take, get_or, arith, ap, ◌∙◌, sym, Fits, w64}
+use Rattle.std.proofs.Common.{◌≡◌, ◌<◌, ◌*◌, ◌+◌, ◌-◌, take, get_or, arith, ap, ◌∙◌, sym}
 use Rattle.std.proofs.lemmas.Grind.{common_steps}
 use Rattle.std.proofs.lemmas.List.Sums.{fold_more}
-use Rattle.words.proofs.Powers.{next_power, power_fits, power_under}
+use Rattle.words.proofs.Powers.{next_power, power_fits}
 use Rattle.words.specs.Numbers.{number_of, with_digit}
 use Rattle.words.proofs.spelling.number.Goals as goal
 

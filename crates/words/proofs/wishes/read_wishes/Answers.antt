@@ -1,5 +1,5 @@
-use Rattle.std.proofs.Common.{◌≡◌, [], ◌++◌, get_or, ap, sym, ◌∙◌}
-use Rattle.std.specs.List.{cons_option, filter_map}
+use Rattle.std.proofs.Common.{[], ◌++◌, get_or, ap, sym, ◌∙◌}
+use Rattle.std.specs.List.{cons_option}
 use Rattle.words.proofs.Collection.{collected_more}
 use Rattle.words.specs.JobOf.{wish_of}
 use Rattle.words.proofs.wishes.read_wishes.Goals as goal
