@@ -1,0 +1,4 @@
+pub mod Collection
+pub mod Division
+pub mod Powers
+pub mod Telling
