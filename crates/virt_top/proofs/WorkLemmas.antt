@@ -1,10 +1,13 @@
 -- From what preparing the work answers to what is due.
-use Rattle.std.proofs.Common.{◌≡◌, ◌⊎◌, ℕ, List, sym, subst, ◌∙◌, ◌≤◌, ◌+◌, ◌-◌, ◌^◌, min, arith, inl, inr}
+use Rattle.std.proofs.Common.{◌≡◌, ◌⊎◌, ℕ, List, sym, subst, ◌∙◌, ◌≤◌, ◌+◌, ◌-◌, ◌^◌, min, arith, inl, inr, ◌<◌, ◌*◌, ◌/◌, ap, length}
 use Rattle.disk_base.specs.declared.device.Mode.{Mode}
 use Rattle.disk_base.specs.Log.{Log, Asked}
 use Rattle.layout_plan.specs.declared.fault.NoPlan.{NoPlan}
 use Rattle.mbr_table.specs.Mbr.{Table}
 use Rattle.resize_core.specs.declared.refusal.MbrRefused.TheVariants.{NoPlan as Refused}
+use Rattle.disk_base.specs.Image.{bytes_at, sector}
+use Rattle.disk_base.proofs.Images.{length-bytes_at}
+use Rattle.resize_core.proofs.ReadBack.{has_planned_table, reads_same}
 use Rattle.disk_base.specs.Faults.{Rose, counted}
 use Rattle.resize_core.specs.Ready.{Work, IsDone}
 use Rattle.resize_core.specs.Targets.{IsRefusedFor}
@@ -94,10 +97,28 @@ until_of same done untouched source target target' text old new (Source fault) i
 until_of same done untouched source target target' text old new (Unplanned fault) is_summary keep finish cut = absurd cut
 until_of same done untouched source target target' text old new Memory is_summary keep finish cut = absurd cut
 
+-- the head of a table that a disk has
+pub head_long : (image : List ℕ) (table : Table) → IsServedTable image table → length table.head ≡ 446
+head_long image table served =
+    let some : 0 < sectors_of image = served.own.is_table.some in
+    let whole : 512 ≤ length image = omega arith in
+    let long : length (bytes_at image (512 * 0) 512) ≡ 512 = length-bytes_at image (512 * 0) 512 (omega arith) in
+    ap length served.own.is_table.head ∙ length-bytes_at (sector image 0) 0 446 (omega (arith, long))
+
 -- work that is done on disks that hold what they held is the work that is due
 pub finished_of : (source source' target mid target' : List ℕ) (work : Work) (text : List ℕ) → source' ≡ source → mid ≡ target → IsPreparedWork source target work text
     → IsDone work source' mid target' → IsFinishedWork source target target'
 finished_of source source' target mid target' work text same same_target prepared done =
     let From : List ℕ → Type 0 = λ image. IsDone work image mid target' in
     let On : List ℕ → Type 0 = λ image. IsDone work source image target' in
-    record { table = prepared.table; work = work; is_work = prepared.is_work; done = subst On same_target (subst From same done) }
+    let is_done = subst On same_target (subst From same done) in
+    let served = prepared.is_work.served in
+    let long = head_long source prepared.table served in
+    record {
+      table = prepared.table;
+      work = work;
+      is_work = prepared.is_work;
+      done = is_done;
+      planned = has_planned_table (sectors_of source) (sectors_of target) prepared.table work source target target' prepared.is_work.ready prepared.placing served.plain long is_done;
+      same = reads_same (sectors_of source) (sectors_of target) prepared.table work source target target' prepared.is_work.ready prepared.placing served.plain long is_done;
+    }

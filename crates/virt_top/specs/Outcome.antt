@@ -10,14 +10,16 @@ use Rattle.mbr_table.specs.Mbr.{Table}
 use Rattle.resize_core.specs.declared.refusal.MbrRefused.{MbrRefused}
 use Rattle.resize_core.specs.declared.refusal.MbrRefused.TheVariants.{Overlap, NoPlan as Refused, Device as FailedDevice, Memory as NoMemory}
 use Rattle.resize_core.specs.Parts.{IsOverlap}
+use Rattle.resize_core.specs.Placing.{IsPlacing}
 use Rattle.resize_core.specs.Ready.{Work, IsDone}
+use Rattle.resize_core.specs.Same.{HasPlannedTable, ReadsSame}
 use Rattle.resize_core.specs.Targets.{IsRefusedFor}
 use Rattle.resize_core.specs.Transfers.{SameAsks}
 use Rattle.virt_top.specs.declared.stop.SourceFault.TheVariants.{Overlap as SharedSector}
 use Rattle.virt_top.specs.declared.stop.Stop.{Stop}
 use Rattle.virt_top.specs.declared.stop.Stop.TheVariants.{NotYet, Source, NoPlan as Unplanned, SourceDevice, TargetDevice, Memory, Printing}
 use Rattle.virt_top.specs.Lines.{lines_of, last_line, stop_line, IsNotYetLine}
-use Rattle.virt_top.specs.Verdict.{IsWork, IsDue, IsUnserved, IsNoSource, HasNoPlanFor}
+use Rattle.virt_top.specs.Verdict.{sectors_of, IsWork, IsDue, IsUnserved, IsNoSource, HasNoPlanFor}
 use Rattle.virt_top.specs.Words.{IsJob, source_name, target_name, word_at}
 
 -- a disk that was asked for at most once, by that name and mode, and not written, given up or created since
@@ -31,12 +33,14 @@ pub record AskedOnce (name : List ℕ) (mode : Mode) (old new : Log) : Type 0 wh
   pub log : (asked ≡ old) ⊎ Asked old asked name mode
   pub since : SameAsks asked new
 
--- the target holds the work that is due, done
+-- the target holds the work that is due, done; its table is the planned one, and each partition reads as the source's
 pub record IsFinishedWork (source old new : List ℕ) : Type 0 where
   pub table : Table
   pub work : Work
   pub is_work : IsWork source old table work
   pub done : IsDone work source old new
+  pub planned : HasPlannedTable table.slots work.plan (sectors_of old) table.head new
+  pub same : ReadsSame table.slots work.plan source new
 
 -- the text is the summary of the work that is due
 pub record IsSummary (source target text : List ℕ) : Type 0 where
@@ -102,6 +106,7 @@ IsRefusedStop sectors table _ = ⊥
 pub record IsPreparedWork (source target : List ℕ) (work : Work) (text : List ℕ) : Type 0 where
   pub table : Table
   pub is_work : IsWork source target table work
+  pub placing : IsPlacing (sectors_of source) (sectors_of target) table.slots work.plan
   pub lines : text ≡ lines_of table.slots work.plan
 
 -- what carrying out work and printing its lines leaves where it stops; `same` says that the target is as it was, and

@@ -2,6 +2,7 @@
 ghost use Rattle.std.specs.Prelude.{◌≡◌, ℕ, ◌++◌, ◌<◌, ◌≤◌, ◌^◌, IsTrue, OnOk, OnErr, IfOk, IfErr, length, string_bytes, List};
 ghost use Rattle.mbr_table.specs.Mbr.{IsSound};
 ghost use Rattle.resize_core.specs.Parts.{LieApart};
+ghost use Rattle.resize_core.specs.Placing.{IsPlacing};
 ghost use Rattle.resize_core.specs.Targets.{HasNoExtended, IsReady};
 ghost use Rattle.disk_base.specs.Faults.{Rose};
 ghost use Rattle.disk_base.specs.Log.{Asked, IsWritable};
@@ -77,6 +78,7 @@ fn ready_for<S: Blocks>(
     requires plain { HasNoExtended mbr.now.slots }
     ensures unread { source.new ≡ source.old }
     ensures ready { IfOk result (λ ready. IsReady (S.size source.old) sectors mbr.now ready) }
+    ensures placed { IfOk result (λ ready. IsPlacing (S.size source.old) sectors mbr.now.slots ready.plan) }
     ensures apart { OnOk result (LieApart mbr.now.slots) }
     ensures refused { IfErr result (IsRefusedStop sectors mbr.now) }
 {
@@ -99,6 +101,7 @@ fn prepare_for<S: Blocks>(
     requires plain { HasNoExtended mbr.now.slots }
     ensures unread { source.new ≡ source.old }
     ensures work { IfOk result (λ prepared. IsReady (S.size source.old) sectors mbr.now prepared.ready) }
+    ensures placed { IfOk result (λ prepared. IsPlacing (S.size source.old) sectors mbr.now.slots prepared.ready.plan) }
     ensures apart { OnOk result (LieApart mbr.now.slots) }
     ensures summary { IfOk result (λ prepared. string_bytes prepared.summary ≡ lines_of mbr.now.slots prepared.ready.plan) }
     ensures buffer { IfOk result (λ prepared. length prepared.buffer.items ≡ 1048576) }

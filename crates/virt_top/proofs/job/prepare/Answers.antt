@@ -1,6 +1,7 @@
 -- The work of the table that judging the source gave.
 use Rattle.std.proofs.lemmas.Result.{err_from_is_err_and}
 use Rattle.std.proofs.Common.{rules, ◌≡◌, ℕ, List, sym, subst, ◌∙◌}
+use Rattle.resize_core.specs.Placing.{IsPlacing}
 use Rattle.resize_core.specs.Targets.{IsReady}
 use Rattle.virt_top.specs.Verdict.{sectors_of}
 use Rattle.virt_top.proofs.SourceLemmas.{sectors_is}
@@ -18,6 +19,8 @@ returns-clause-work g c = λ t target is.
     sectors_is _ _ (g.met.S.Blocks.whole _ t) ∙ sym (g.met.S.Blocks.same_size _ _ c.in_ok-mbr.ensures.read) in
     let From : ℕ → Type 0 = λ n. IsReady n c.args.sectors c.in_ok-mbr.mbr c.in_ok-prepared.prepared.ready in
     let To : ℕ → Type 0 = λ n. IsReady (sectors_of (g.S.Blocks.image c.args.source.now)) n c.in_ok-mbr.mbr c.in_ok-prepared.prepared.ready in
+    let Placed : ℕ → Type 0 = λ n. IsPlacing n c.args.sectors c.in_ok-mbr.mbr.slots c.in_ok-prepared.prepared.ready.plan in
+    let PlacedTo : ℕ → Type 0 = λ n. IsPlacing (sectors_of (g.S.Blocks.image c.args.source.now)) n c.in_ok-mbr.mbr.slots c.in_ok-prepared.prepared.ready.plan in
     record {
       table = c.in_ok-mbr.mbr;
       is_work = record {
@@ -25,6 +28,7 @@ returns-clause-work g c = λ t target is.
         apart = c.in_ok-prepared.ensures.apart;
         ready = subst To (sym is) (subst From (sym size) c.in_ok-prepared.ensures.work);
       };
+      placing = subst PlacedTo (sym is) (subst Placed (sym size) c.in_ok-prepared.ensures.placed);
       lines = c.in_ok-prepared.ensures.summary;
     }
 
