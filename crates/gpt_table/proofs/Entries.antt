@@ -1,8 +1,7 @@
 -- An entry that was written is read as it was.
-use Rattle.std.proofs.Common.{◌≡◌, ℕ, ◌^◌, ◌<◌, List, [], ◌++◌, Some, length, take, drop, ap, ◌∙◌, arith}
+use Rattle.std.proofs.Common.{◌≡◌, ℕ, ◌^◌, ◌<◌, List, [], Some, length, arith}
 use Rattle.std.proofs.lemmas.List.{take_all}
 use Rattle.byteorder.specs.Numbers.{little_number-reads_back}
-use Rattle.uuid.specs.Parts.{swap_fields}
 use Rattle.uuid.proofs.RoundTrips.{swap_twice}
 use Rattle.gpt_table.specs.declared.entry.Entry.{Entry}
 use Rattle.gpt_table.specs.Entry.{guid_at, number_at, entry_of, slot_bytes}

@@ -1,5 +1,5 @@
 -- The bytes of a header.
-use Rattle.std.proofs.Common.{◌≡◌, ℕ, ◌+◌, ◌≤◌, Bool, List, [], ◌++◌, length, take, drop, replicate, refl, sym, ap, ◌∙◌, append_assoc, append-nil, arith, length-take, length-append}
+use Rattle.std.proofs.Common.{◌≡◌, ℕ, ◌+◌, Bool, List, ◌++◌, length, take, drop, replicate, refl, sym, ap, ◌∙◌, append_assoc, append-nil, arith, length-take, length-append}
 use Rattle.std.proofs.lemmas.List.{take_at, drop_all}
 use Rattle.disk_base.specs.Image.{bytes_at, with_bytes}
 use Rattle.disk_base.proofs.Images.{length-bytes_at}

@@ -1,5 +1,5 @@
 -- From what the parts of the reader find to the table of a disk.
-use Rattle.std.proofs.Common.{◌≡◌, ℕ, ◌+◌, ◌-◌, ◌*◌, ◌<◌, ◌≤◌, true, false, Option, Some, take, drop, List, refl, sym, ap, subst, ◌∙◌, arith, Vec, Global}
+use Rattle.std.proofs.Common.{◌≡◌, ℕ, ◌+◌, ◌-◌, ◌*◌, ◌<◌, true, false, Option, take, drop, List, sym, ap, subst, ◌∙◌, arith, Vec, Global}
 use Rattle.disk_base.specs.Checksum.{IsCrc32}
 use Rattle.disk_base.specs.Image.{sector}
 use Rattle.disk_base.proofs.Checksums.{one_crc32}
@@ -9,8 +9,8 @@ use Rattle.gpt_table.specs.declared.fault.GptFault.TheVariants.{NoHeader, Shape,
 use Rattle.gpt_table.specs.declared.header.Header.{Header}
 use Rattle.gpt_table.specs.declared.reading.Chosen.{Chosen}
 use Rattle.gpt_table.specs.Entry.{slot_at, entry_of, used, is_bad}
-use Rattle.gpt_table.specs.Header.{array_of, array_checksum, HasOtherShape, IsValid, IsAbsent, IsMisshapen}
-use Rattle.gpt_table.specs.Gpt.{HasGptFault, IsInUse, header_in, array_in}
+use Rattle.gpt_table.specs.Header.{array_of, array_checksum, HasOtherShape, IsAbsent}
+use Rattle.gpt_table.specs.Gpt.{HasGptFault, header_in, array_in}
 use Rattle.gpt_table.specs.Reading.{header_of, is_bad_by, IsRead, IsTaken, IsChosen, IsFirstBadBy, IsListFault}
 
 -- a placed header whose array has another checksum is not valid

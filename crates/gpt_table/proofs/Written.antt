@@ -1,19 +1,18 @@
 -- A disk on which a table stands as it is written is read as that table.
-use Rattle.std.proofs.Common.{◌≡◌, ℕ, zero, suc, ◌+◌, ◌-◌, ◌*◌, ◌/◌, ◌^◌, ◌<◌, ◌≤◌, Bool, true, false, cond, not, List, [], ◌∷◌, ◌++◌, length, take, drop, replicate, get_or, flat_map, codes, Option, Some, None, refl, sym, ap, subst, ◌∙◌, append_assoc, arith, append-nil, nat_lt, ◌||◌, if◌then◌else◌, length-append, length-take, le-ltb}
+use Rattle.std.proofs.Common.{◌≡◌, ℕ, zero, suc, ◌+◌, ◌-◌, ◌*◌, ◌^◌, ◌<◌, ◌≤◌, Bool, true, false, List, [], ◌∷◌, ◌++◌, length, take, drop, replicate, get_or, Option, Some, None, refl, sym, ap, subst, ◌∙◌, arith, append-nil, nat_lt, ◌||◌, if◌then◌else◌, length-append, length-take, le-ltb}
 use Rattle.std.proofs.lemmas.List.{take_at, drop_at, drop-drop, take_all, take_more, get_or-take}
 use Rattle.std.proofs.lemmas.Grind.{flat_map-append}
 use Rattle.std.proofs.lemmas.Bool.{false≢true}
-use Rattle.byteorder.specs.Endian.{little_bytes, little_number}
 use Rattle.byteorder.specs.Numbers.{little_number-reads_back}
-use Rattle.uuid.specs.Parts.{swap_fields, is_nil_bytes}
+use Rattle.uuid.specs.Parts.{is_nil_bytes}
 use Rattle.uuid.proofs.RoundTrips.{swap_twice}
 use Rattle.disk_base.specs.Checksum.{IsCrc32}
 use Rattle.disk_base.specs.Image.{bytes_at, with_bytes, sector}
 use Rattle.gpt_table.proofs.Puts.{next, filled}
 use Rattle.gpt_table.specs.declared.entry.Entry.{Entry}
 use Rattle.gpt_table.specs.Entry.{guid_at, number_at, entry_of, used, slot_at, kept, is_bad, slot_bytes}
-use Rattle.gpt_table.specs.Header.{first_usable, last_usable, disk_guid, array_place, entry_count, entry_size, array_checksum, summed, HasStart, HasShape, IsSoundHeader, IsPlacedHeader, IsValid, IsAbsent, IsHeaderSector, header_place, array_written, array_of, start_bytes, rest_bytes, header_bytes}
-use Rattle.gpt_table.specs.Gpt.{Table, IsGptTable, IsInUse, AreEntries, AreWritable, IsWritable, IsWritten, ReadsAs, array_bytes, is_bad_at, header_in, array_in}
+use Rattle.gpt_table.specs.Header.{first_usable, last_usable, disk_guid, array_place, array_checksum, summed, HasStart, HasShape, IsPlacedHeader, IsValid, IsHeaderSector, header_place, array_written, array_of, start_bytes, rest_bytes, header_bytes}
+use Rattle.gpt_table.specs.Gpt.{Table, AreWritable, IsWritable, IsWritten, ReadsAs, array_bytes}
 
 -- ---- a header
 

@@ -1,5 +1,5 @@
 -- One of the 128 entries of a table: what its 128 bytes say, and when it may not stand in a table.
-use Rattle.std.specs.Prelude.{◌≡◌, ℕ, ◌*◌, ◌<◌, ◌≤◌, Bool, false, not, ◌||◌, nat_lt, if◌then◌else◌, List, ◌++◌, length, drop, replicate, flat_map, Option, Some, None}
+use Rattle.std.specs.Prelude.{◌≡◌, ℕ, ◌*◌, ◌<◌, ◌≤◌, Bool, false, ◌||◌, nat_lt, if◌then◌else◌, List, ◌++◌, drop, replicate, Option, Some, None}
 use Rattle.byteorder.specs.Endian.{little_number, little_bytes}
 use Rattle.uuid.specs.Parts.{swap_fields, is_nil_bytes}
 use Rattle.disk_base.specs.Image.{bytes_at}

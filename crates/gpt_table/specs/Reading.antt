@@ -1,5 +1,5 @@
 -- What the parts of the reader find, one sector at a time.
-use Rattle.std.specs.Prelude.{◌≡◌, ℕ, ◌+◌, ◌-◌, ◌<◌, ◌≤◌, ◌⊎◌, Bool, false, List, length, slice_index_or, Option, Some, None, IsTrue}
+use Rattle.std.specs.Prelude.{◌≡◌, ℕ, ◌+◌, ◌-◌, ◌<◌, ◌≤◌, ◌⊎◌, Bool, false, List, length, slice_index_or, Option, None, IsTrue}
 use Rattle.disk_base.specs.Image.{sector}
 use Rattle.gpt_table.specs.declared.entry.Entry.{Entry}
 use Rattle.gpt_table.specs.declared.fault.GptFault.{GptFault}

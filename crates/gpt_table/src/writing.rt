@@ -99,8 +99,9 @@ pub fn protective_sector(head: &[u8; 446], sectors: u64, out: &mut [u8; 512])
     put(out, 510, &[0x55, 0xAA]);
 }
 
-/// Makes the array of a table's entries. With the two headers of [`gpt_header`] at their places, a disk
-/// is read as that table.
+/// Makes the array of a table's entries. An entry whose kind is zero is read as unused. With the array
+/// and the headers of [`gpt_header`] at their places, a disk is read as that table, where each entry has
+/// a kind and lies in the usable sectors.
 pub fn gpt_entries(gpt: &Gpt, out: &mut [u8; 16384])
     ensures bytes { out.new ≡ array_bytes gpt.now.entries }
     ensures read_back { (k : ℕ) → k < 128 → slot_at out.new k ≡ kept (slice_index_or gpt.now.entries k None) }

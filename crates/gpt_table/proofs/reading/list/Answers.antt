@@ -1,6 +1,5 @@
 use Rattle.std.proofs.Common.{◌≡◌, ◌+◌, ◌-◌, ◌*◌, ◌∙◌, ap, sym, arith, below_more, get_or, None, refl}
 use Rattle.gpt_table.specs.Entry.{slot_at, is_bad}
-use Rattle.gpt_table.specs.Reading.{is_bad_by}
 use Rattle.gpt_table.proofs.Readings.{first_bad, slot_here}
 use Rattle.gpt_table.proofs.reading.list.Goals as goal
 

@@ -1,7 +1,6 @@
-use Rattle.std.proofs.Common.{◌≡◌, ℕ, List, ◌++◌, length, replicate, arith, ap, ◌∙◌}
+use Rattle.std.proofs.Common.{◌≡◌, ◌++◌, length, replicate, arith, ap, ◌∙◌}
 use Rattle.byteorder.specs.Endian.{little_bytes}
 use Rattle.uuid.specs.Parts.{swap_fields}
-use Rattle.disk_base.specs.Image.{with_bytes}
 use Rattle.gpt_table.specs.Entry.{slot_bytes, entry_of}
 use Rattle.gpt_table.proofs.Entries.{entry_read_back}
 use Rattle.gpt_table.proofs.Puts.{next, filled}

@@ -1,4 +1,4 @@
-use Rattle.std.proofs.Common.{◌≡◌, ◌<◌, ◌∙◌, ap, sym, subst, arith, below_more, get_or, length, None, List, ℕ}
+use Rattle.std.proofs.Common.{◌≡◌, ◌<◌, ◌∙◌, ap, sym, arith, below_more, get_or, length, None, ℕ}
 use Rattle.std.proofs.lemmas.List.{get_or_default}
 use Rattle.gpt_table.specs.Entry.{entry_of, used, kept, slot_bytes, slot_at}
 use Rattle.gpt_table.proofs.Written.{slots_back, written_more, written_all, reads_as}

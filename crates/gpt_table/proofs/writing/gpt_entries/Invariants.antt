@@ -1,4 +1,4 @@
-use Rattle.std.proofs.Common.{◌≡◌, ℕ, ◌*◌, ◌<◌, List, length, take, get_or, None}
+use Rattle.std.proofs.Common.{◌≡◌, ℕ, ◌<◌, length, take, get_or, None}
 use Rattle.disk_base.specs.Image.{with_bytes}
 use Rattle.gpt_table.specs.Entry.{entry_of, used, kept, slot_bytes}
 use Rattle.gpt_table.specs.Gpt.{array_bytes}

@@ -1,6 +1,5 @@
 use Rattle.std.proofs.Common.{◌≡◌, ◌++◌, ◌∙◌, ap, subst, arith, length, length-append, replicate, ℕ, List}
 use Rattle.disk_base.specs.Checksum.{IsCrc32}
-use Rattle.gpt_table.specs.Header.{header_bytes}
 use Rattle.gpt_table.proofs.Headers.{length-header_bytes}
 use Rattle.gpt_table.proofs.Puts.{next, filled}
 use Rattle.gpt_table.proofs.writing.gpt_header.Goals as goal

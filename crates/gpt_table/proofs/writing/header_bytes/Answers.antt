@@ -1,4 +1,4 @@
-use Rattle.std.proofs.Common.{◌≡◌, ◌≤◌, ◌+◌, ◌++◌, ◌∙◌, ap, arith, length, length-append, replicate, ℕ, List}
+use Rattle.std.proofs.Common.{◌≡◌, ◌++◌, ◌∙◌, ap, arith, length, length-append, replicate, ℕ, List}
 use Rattle.gpt_table.specs.Header.{start_bytes, rest_bytes}
 use Rattle.gpt_table.proofs.Headers.{length-start_bytes, length-rest_bytes}
 use Rattle.gpt_table.proofs.Puts.{next, filled}

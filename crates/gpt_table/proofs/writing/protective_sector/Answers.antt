@@ -1,4 +1,4 @@
-use Rattle.std.proofs.Common.{◌≡◌, ◌-◌, ◌++◌, ◌∷◌, [], ◌∙◌, ap, arith, min, length, length-append, replicate, ℕ, List}
+use Rattle.std.proofs.Common.{◌≡◌, ◌-◌, ◌++◌, ◌∷◌, [], ◌∙◌, ap, arith, min, length, length-append, replicate, ℕ}
 use Rattle.byteorder.specs.Endian.{little_bytes}
 use Rattle.gpt_table.proofs.Puts.{next, filled}
 use Rattle.gpt_table.proofs.writing.protective_sector.Goals as goal

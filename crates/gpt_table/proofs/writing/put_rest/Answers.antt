@@ -1,8 +1,8 @@
-use Rattle.std.proofs.Common.{◌≡◌, ℕ, ◌-◌, List, ◌++◌, arith, ap, ◌∙◌}
+use Rattle.std.proofs.Common.{ℕ, ◌-◌, ◌++◌, arith, ap, ◌∙◌}
 use Rattle.byteorder.specs.Endian.{little_bytes}
 use Rattle.uuid.specs.Parts.{swap_fields}
 use Rattle.disk_base.specs.Image.{with_bytes}
-use Rattle.gpt_table.specs.Header.{array_written, rest_bytes}
+use Rattle.gpt_table.specs.Header.{rest_bytes}
 use Rattle.gpt_table.proofs.Puts.{next}
 use Rattle.gpt_table.proofs.writing.put_rest.Goals as goal
 

@@ -1,4 +1,4 @@
-use Rattle.std.proofs.Common.{◌≡◌, ℕ, List, ◌++◌, arith, not, codes, ap, ◌∙◌}
+use Rattle.std.proofs.Common.{ℕ, ◌++◌, arith, codes, ap, ◌∙◌}
 use Rattle.byteorder.specs.Endian.{little_bytes}
 use Rattle.disk_base.specs.Image.{with_bytes}
 use Rattle.gpt_table.specs.Header.{header_place, start_bytes}
