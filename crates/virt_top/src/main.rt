@@ -13,6 +13,8 @@ mod report;
 mod run;
 mod stop;
 mod streams;
+#[cfg(test)]
+mod tests;
 mod words;
 mod writing;
 
