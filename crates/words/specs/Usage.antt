@@ -105,7 +105,7 @@ abbrev pub first_of : Option Usage → Option Usage → Option Usage
 first_of None later = later
 first_of (Some fault) later = Some fault
 
--- how many operands there may be: none but the disk itself with `--in-place`
+-- how many operands there may be: one with `--in-place`, else two
 abbrev pub most_operands : List Item → ℕ
 most_operands items = if stands_in InPlace items then 1 else 2
 
