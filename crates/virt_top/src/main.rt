@@ -5,6 +5,8 @@
 //! and text. The files and streams themselves are trusted.
 #![tactic(auto)]
 
+#[cfg(test)]
+mod file_tests;
 mod files;
 mod job;
 mod judging;

@@ -39,33 +39,33 @@ fn filled(alloc: Global, sectors: u64, byte: u8) -> Result<Vec<u8>, AllocError>
 }
 
 // Puts bytes into an image where they fit.
-fn put(image: &mut Vec<u8>, at: usize, bytes: &[u8])
-    ensures { length image.new.items ≡ length image.old.items }
-{
+fn put(image: &mut [u8], at: usize, bytes: &[u8]) {
     if at <= image.len() && bytes.len() <= image.len() - at {
         image[at..at + bytes.len()].copy_from_slice(bytes);
     }
 }
 
-// A disk with the signature and these slots, as type, first sector and number of sectors; each sector holds
-// `byte`, but for sector 0.
-fn with_slots(
-    alloc: Global,
-    sectors: u64,
-    byte: u8,
-    slots: &[(u8, u32, u32)],
-) -> Result<Vec<u8>, AllocError>
+// A slot of a table, as type, first sector and number of sectors.
+type Slot = (u8, u32, u32);
+
+// Makes sector 0 a table with the signature and these slots.
+fn put_table(image: &mut [u8], slots: &[Slot]) {
+    put(image, 0, &[0; 510]);
+    put(image, 510, &[0x55, 0xAA]);
+    for (i, (kind, start, count)) in slots.iter().take(4).enumerate() {
+        put(image, 450 + 16 * i, &[*kind]);
+        put(image, 454 + 16 * i, &start.to_le_bytes());
+        put(image, 458 + 16 * i, &count.to_le_bytes());
+    }
+}
+
+// A disk with such a table; each other sector holds `byte`.
+fn with_slots(alloc: Global, sectors: u64, byte: u8, slots: &[Slot]) -> Result<Vec<u8>, AllocError>
     requires { sectors ≤ 131072 }
     ensures { IfOk result (λ image. length image.items ≡ 512 * sectors) }
 {
     let mut image = filled(alloc, sectors, byte)?;
-    put(&mut image, 0, &[0; 510]);
-    put(&mut image, 510, &[0x55, 0xAA]);
-    for (i, (kind, start, count)) in slots.iter().take(4).enumerate() {
-        put(&mut image, 450 + 16 * i, &[*kind]);
-        put(&mut image, 454 + 16 * i, &start.to_le_bytes());
-        put(&mut image, 458 + 16 * i, &count.to_le_bytes());
-    }
+    put_table(image.as_mut_slice(), slots);
     Ok(image)
 }
 
@@ -130,61 +130,79 @@ fn copied_to(alloc: Global, sectors: u64) -> Result<Seen, AllocError>
 
 const KEPT: &[u8] = b"/dev/sda1: kept 2048+20480 -> /dev/sda1 2048+20480\ndone\n";
 
+// A part of an image, or nothing where it doesn't reach so far.
+fn part(image: &[u8], from: usize, to: usize) -> &[u8] {
+    image.get(from..to).unwrap_or(&[])
+}
+
+fn are_all(bytes: &[u8], byte: u8) -> bool {
+    bytes.iter().all(|one| *one == byte)
+}
+
 #[test]
-fn one_partition_is_copied_to_many_targets(rt: HostRuntime) -> Result<(), Fail> {
-    let alloc = rt.alloc();
-    let large = copied_to(alloc, 65536)?;
-    assert_eq!(rt; large.status, 0);
+fn one_partition_is_copied_and_the_rest_becomes_another(rt: HostRuntime) -> Result<(), Fail> {
+    let left = copied_to(rt.alloc(), 65536)?;
+    let image = left.target.as_slice();
+    assert_eq!(rt; left.status, 0);
     assert_eq!(rt;
-        large.out.as_slice(),
+        left.out.as_slice(),
         b"/dev/sda1: kept 2048+20480 -> /dev/sda1 2048+20480\nextra: /dev/sda2 22528+43008\ndone\n".as_slice()
     );
-    assert!(rt; large.target.len() == 33554432);
     assert_eq!(rt;
-        &large.target[446..462],
+        part(image, 446, 462),
         [
             0, 0xFE, 0xFF, 0xFF, 0x83, 0xFE, 0xFF, 0xFF, 0, 8, 0, 0, 0, 0x50, 0, 0
         ]
         .as_slice()
     );
     assert_eq!(rt;
-        &large.target[462..478],
+        part(image, 462, 478),
         [
             0, 0xFE, 0xFF, 0xFF, 0x83, 0xFE, 0xFF, 0xFF, 0, 0x58, 0, 0, 0, 0xA8, 0, 0
         ]
         .as_slice()
     );
-    assert!(rt; large.target[512..11534336].iter().all(|byte| *byte == 75));
-    assert!(rt; large.target[11534336..].iter().all(|byte| *byte == 0));
-    let small = copied_to(alloc, 43007)?;
-    assert_eq!(rt; small.out.as_slice(), KEPT);
-    let extra = copied_to(alloc, 43008)?;
-    assert_eq!(rt;
-        extra.out.as_slice(),
-        b"/dev/sda1: kept 2048+20480 -> /dev/sda1 2048+20480\nextra: /dev/sda2 22528+20480\ndone\n".as_slice()
-    );
-    let exact = copied_to(alloc, 22528)?;
-    assert_eq!(rt; (exact.status, exact.out.as_slice()), (0, KEPT));
-    let short = copied_to(alloc, 22527)?;
-    assert_eq!(rt;
-        (short.status, short.err.as_slice()),
+    assert_eq!(rt; image.len(), 33554432);
+    assert!(rt; are_all(part(image, 512, 11534336), 75));
+    assert!(rt; are_all(part(image, 11534336, 33554432), 0));
+    Ok(())
+}
+
+#[test]
+fn targets_that_fit_and_that_do_not(rt: HostRuntime) -> Result<(), Fail> {
+    let cases: [(u64, u8, &[u8], &[u8]); 5] = [
+        (43007, 0, KEPT, b""),
         (
+            43008,
+            0,
+            b"/dev/sda1: kept 2048+20480 -> /dev/sda1 2048+20480\nextra: /dev/sda2 22528+20480\ndone\n",
+            b"",
+        ),
+        (22528, 0, KEPT, b""),
+        (
+            22527,
             4,
-            b"virt-resize: no plan: DoesNotFit end=22528 limit=22527\n".as_slice()
-        )
-    );
-    let tiny = copied_to(alloc, 1)?;
-    assert_eq!(rt;
-        (tiny.status, tiny.err.as_slice()),
-        (4, b"virt-resize: no plan: TooSmall sectors=1\n".as_slice())
-    );
+            b"",
+            b"virt-resize: no plan: DoesNotFit end=22528 limit=22527\n",
+        ),
+        (1, 4, b"", b"virt-resize: no plan: TooSmall sectors=1\n"),
+    ];
+    for (sectors, status, out, err) in cases {
+        if sectors > 65536 {
+            return Ok(());
+        }
+        let left = copied_to(rt.alloc(), sectors)?;
+        assert_eq!(rt; left.status, status, "at {sectors}");
+        assert_eq!(rt; left.out.as_slice(), out, "at {sectors}");
+        assert_eq!(rt; left.err.as_slice(), err, "at {sectors}");
+    }
     Ok(())
 }
 
 #[test]
 fn what_is_no_job_or_no_source_is_told(rt: HostRuntime) -> Result<(), Fail> {
     let alloc = rt.alloc();
-    let cases: [(&[&str], u64, &[(u8, u32, u32)], u8, &[u8]); 9] = [
+    let cases: [(&[&str], u64, &[Slot], u8, &[u8]); 9] = [
         (
             &["virt-resize", "-n", "a", "b"],
             8,
