@@ -20,7 +20,8 @@ fn within(alloc: Global, folder: &str, name: &str) -> io::Result<String> {
     Ok(format!(in alloc; "{folder}/{name}")?)
 }
 
-// Writes sector 1 of four, reads it back, gives up sectors 1 and 2, and flushes: what was read, where all
+// Writes sector 1 of four, reads it back, gives up sectors 1 and 2 twice, once over
+// bytes and once over zeros, and flushes: what was read, where all
 // went well.
 fn change(disk: &mut FileDisk<'_, HostRuntime>, path: &str) -> Option<[u8; 512]> {
     let Ok(()) = disk.attach(path.as_bytes(), Mode::Change) else {
@@ -32,6 +33,7 @@ fn change(disk: &mut FileDisk<'_, HostRuntime>, path: &str) -> Option<[u8; 512]>
     let mut out = [0; 512];
     disk.write(1, &[7; 512]).ok()?;
     disk.read(1, &mut out).ok()?;
+    disk.discard(1, 2).ok()?;
     disk.discard(1, 2).ok()?;
     disk.flush().ok()?;
     Some(out)

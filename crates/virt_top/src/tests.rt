@@ -14,21 +14,28 @@ struct Seen {
     target: Vec<u8>,
 }
 
-// The call numbers at which each device fails.
+// The call, by its number, at which each device fails.
 #[derive(Clone, Copy, Debug)]
 struct Failing {
-    source: &'static [u64],
-    target: &'static [u64],
-    out: &'static [u64],
-    err: &'static [u64],
+    source: Option<u64>,
+    target: Option<u64>,
+    out: Option<u64>,
+    err: Option<u64>,
 }
 
 const NONE: Failing = Failing {
-    source: &[],
-    target: &[],
-    out: &[],
-    err: &[],
+    source: None,
+    target: None,
+    out: None,
+    err: None,
 };
+
+fn listed(alloc: Global, number: Option<u64>) -> Result<Vec<u64>, AllocError> {
+    match number {
+        Some(number) => [number].to_vec(alloc),
+        None => Ok(Vec::new(alloc)),
+    }
+}
 
 // A disk of `sectors` sectors that hold `byte`.
 fn filled(alloc: Global, sectors: u64, byte: u8) -> Result<Vec<u8>, AllocError>
@@ -99,10 +106,10 @@ fn after_run(
     requires target { (length target.items % 512 ≡ 0) × (length target.items ≤ 512 * 131072) }
 {
     let words = words_of(alloc, words)?;
-    let mut source = MemDisk::new(alloc, "a", source, limits(), failing.source.to_vec(alloc)?)?;
-    let mut target = MemDisk::new(alloc, "b", target, limits(), failing.target.to_vec(alloc)?)?;
-    let mut out = MemSink::new(alloc, 1000, failing.out.to_vec(alloc)?)?;
-    let mut err = MemSink::new(alloc, 1000, failing.err.to_vec(alloc)?)?;
+    let mut source = MemDisk::new(alloc, "a", source, limits(), listed(alloc, failing.source)?)?;
+    let mut target = MemDisk::new(alloc, "b", target, limits(), listed(alloc, failing.target)?)?;
+    let mut out = MemSink::new(alloc, 1000, listed(alloc, failing.out)?)?;
+    let mut err = MemSink::new(alloc, 1000, listed(alloc, failing.err)?)?;
     let status = run(
         alloc,
         words.as_slice(),
@@ -272,153 +279,164 @@ fn what_is_no_job_or_no_source_is_told(rt: HostRuntime) -> Result<(), Fail> {
     Ok(())
 }
 
-// Copies a disk of four sectors with one partition onto one of bytes 5A, with calls that fail.
-fn failing_copy(alloc: Global, failing: Failing) -> Result<Seen, AllocError> {
-    let source = with_slots(alloc, 4, 75, &[(0x83, 1, 2)])?;
-    let target = filled(alloc, 4, 0x5A)?;
-    after_run(alloc, &["virt-resize", "a", "b"], source, target, failing)
+// Copies the disk with one partition onto one of bytes 5A, with a call that fails: the status, the line on
+// standard error, and a byte of sector 0, which tells what it was (5A), zeros (0) or a new table (55).
+fn failing_copy(alloc: Global, failing: Failing) -> Result<(u8, Vec<u8>, Option<u8>), AllocError> {
+    let source = with_slots(alloc, 65536, 75, &[(0x83, 2048, 20480)])?;
+    let target = filled(alloc, 65536, 0x5A)?;
+    let left = after_run(alloc, &["virt-resize", "a", "b"], source, target, failing)?;
+    Ok((left.status, left.err, left.target.get(510).copied()))
+}
+
+const SOURCE: &[u8] = b"virt-resize: source device\n";
+
+const TARGET: &[u8] = b"virt-resize: target device\n";
+
+const PRINTING: &[u8] = b"virt-resize: printing\n";
+
+// The source is attached, read twice for its table, ten times for the content and once for the boot area.
+#[test]
+fn each_call_of_the_source_may_fail(rt: HostRuntime) -> Result<(), Fail> {
+    let alloc = rt.alloc();
+    for number in 0..14 {
+        let failing = Failing {
+            source: Some(number),
+            ..NONE
+        };
+        let (status, line, byte) = failing_copy(alloc, failing)?;
+        let table = if number < 3 { 0x5A } else { 0 };
+        assert_eq!(rt;
+            (status, line.as_slice(), byte),
+            (5, SOURCE, Some(table)),
+            "call {number}"
+        );
+    }
+    let (status, line, byte) = failing_copy(
+        alloc,
+        Failing {
+            source: Some(14),
+            ..NONE
+        },
+    )?;
+    assert_eq!(rt;
+        (status, line.as_slice(), byte),
+        (0, b"".as_slice(), Some(0x55))
+    );
+    Ok(())
+}
+
+// The target is attached, cleared and flushed, written eleven times and flushed, given its table and flushed.
+#[test]
+fn each_call_of_the_target_may_fail(rt: HostRuntime) -> Result<(), Fail> {
+    let alloc = rt.alloc();
+    for number in 0..17 {
+        let failing = Failing {
+            target: Some(number),
+            ..NONE
+        };
+        let (status, line, byte) = failing_copy(alloc, failing)?;
+        let table = match number {
+            0 | 1 => 0x5A,
+            16 => 0x55,
+            _ => 0,
+        };
+        assert_eq!(rt;
+            (status, line.as_slice(), byte),
+            (6, TARGET, Some(table)),
+            "call {number}"
+        );
+    }
+    let (status, line, byte) = failing_copy(
+        alloc,
+        Failing {
+            target: Some(17),
+            ..NONE
+        },
+    )?;
+    assert_eq!(rt;
+        (status, line.as_slice(), byte),
+        (0, b"".as_slice(), Some(0x55))
+    );
+    Ok(())
 }
 
 #[test]
-fn each_call_that_fails_has_its_status(rt: HostRuntime) -> Result<(), Fail> {
+fn each_stream_may_fail(rt: HostRuntime) -> Result<(), Fail> {
     let alloc = rt.alloc();
-    let cases: [(Failing, u8, &[u8], u8); 16] = [
-        (NONE, 0, b"", 0x55),
+    let cases: [(Failing, u8, &[u8], u8); 4] = [
         (
             Failing {
-                source: &[0],
+                out: Some(0),
                 ..NONE
             },
-            5,
-            b"virt-resize: source device\n",
-            0x5A,
-        ),
-        (
-            Failing {
-                source: &[1],
-                ..NONE
-            },
-            5,
-            b"virt-resize: source device\n",
-            0x5A,
-        ),
-        (
-            Failing {
-                source: &[2],
-                ..NONE
-            },
-            5,
-            b"virt-resize: source device\n",
-            0x5A,
-        ),
-        (
-            Failing {
-                source: &[3],
-                ..NONE
-            },
-            5,
-            b"virt-resize: source device\n",
-            0,
-        ),
-        (
-            Failing {
-                target: &[0],
-                ..NONE
-            },
-            6,
-            b"virt-resize: target device\n",
-            0x5A,
-        ),
-        (
-            Failing {
-                target: &[1],
-                ..NONE
-            },
-            6,
-            b"virt-resize: target device\n",
-            0x5A,
-        ),
-        (
-            Failing {
-                target: &[2],
-                ..NONE
-            },
-            6,
-            b"virt-resize: target device\n",
-            0,
-        ),
-        (
-            Failing {
-                target: &[3],
-                ..NONE
-            },
-            6,
-            b"virt-resize: target device\n",
-            0,
-        ),
-        (
-            Failing {
-                target: &[4],
-                ..NONE
-            },
-            6,
-            b"virt-resize: target device\n",
-            0,
-        ),
-        (
-            Failing {
-                target: &[5],
-                ..NONE
-            },
-            6,
-            b"virt-resize: target device\n",
-            0,
-        ),
-        (
-            Failing {
-                target: &[6],
-                ..NONE
-            },
-            6,
-            b"virt-resize: target device\n",
-            0x55,
-        ),
-        (
-            Failing { out: &[0], ..NONE },
             8,
-            b"virt-resize: printing\n",
+            PRINTING,
             0x5A,
         ),
         (
-            Failing { out: &[1], ..NONE },
+            Failing {
+                out: Some(1),
+                ..NONE
+            },
             8,
-            b"virt-resize: printing\n",
+            PRINTING,
             0x55,
         ),
         (
             Failing {
-                source: &[0],
-                err: &[0],
+                source: Some(0),
+                err: Some(0),
                 ..NONE
             },
             5,
             b"",
             0x5A,
         ),
-        (Failing { err: &[0], ..NONE }, 0, b"", 0x55),
+        (
+            Failing {
+                err: Some(0),
+                ..NONE
+            },
+            0,
+            b"",
+            0x55,
+        ),
     ];
-    for (failing, status, line, signature) in cases {
-        let left = failing_copy(alloc, failing)?;
+    for (failing, want, text, table) in cases {
+        let (status, line, byte) = failing_copy(alloc, failing)?;
         assert_eq!(rt;
-            (left.status, left.err.as_slice()),
-            (status, line),
+            (status, line.as_slice(), byte),
+            (want, text, Some(table)),
             "at {failing:?}"
         );
-        assert_eq!(rt;
-            left.target.get(510).copied(),
-            Some(signature),
-            "at {failing:?}"
-        );
+    }
+    Ok(())
+}
+
+#[test]
+fn tables_of_other_shapes_are_copied(rt: HostRuntime) -> Result<(), Fail> {
+    let alloc = rt.alloc();
+    let cases: [(&[Slot], &[u8]); 3] = [
+        (
+            &[
+                (0x83, 128, 10),
+                (0x82, 256, 10),
+                (0x83, 384, 10),
+                (0x07, 512, 10),
+            ],
+            b"/dev/sda1: kept 128+10 -> /dev/sda1 128+10\n/dev/sda2: kept 256+10 -> /dev/sda2 256+10\n/dev/sda3: kept 384+10 -> /dev/sda3 384+10\n/dev/sda4: kept 512+10 -> /dev/sda4 512+10\ndone\n",
+        ),
+        (
+            &[(0x83, 8192, 100), (0x83, 2048, 100)],
+            b"/dev/sda1: kept 8192+100 -> /dev/sda1 2176+100\n/dev/sda2: kept 2048+100 -> /dev/sda2 2048+100\nextra: /dev/sda3 2304+28416\ndone\n",
+        ),
+        (&[], b"extra: /dev/sda1 128+30592\ndone\n"),
+    ];
+    for (slots, text) in cases {
+        let source = with_slots(alloc, 16384, 75, slots)?;
+        let target = filled(alloc, 30720, 0)?;
+        let left = after_run(alloc, &["virt-resize", "a", "b"], source, target, NONE)?;
+        assert_eq!(rt; (left.status, left.out.as_slice()), (0, text));
     }
     Ok(())
 }
