@@ -1,14 +1,17 @@
 -- The writes in their order make the finished target.
+use Rattle.std.proofs.lemmas.Bool.{cases_lt, false≢true}
 use Rattle.std.proofs.lemmas.List.{length-replicate, take_all}
 use Rattle.std.proofs.lemmas.List.Elements.{All-get_or}
-use Rattle.std.proofs.Common.{◌≡◌, ℕ, ◌+◌, ◌-◌, ◌*◌, ◌<◌, ◌≤◌, List, length, arith, ◌∙◌, sym, ap, slice_index_or, replicate, Result, Ok, Err, IfErr}
-use Rattle.disk_base.specs.Image.{with_bytes, sector, AgreesOutside}
-use Rattle.disk_base.proofs.Images.{sector_written, sector_behind, length-with_bytes}
+use Rattle.std.proofs.Common.{◌≡◌, ℕ, ◌+◌, ◌-◌, ◌*◌, ◌<◌, ◌≤◌, List, length, arith, ◌∙◌, sym, ap, slice_index, inl, inr, slice_index_or, replicate, Result, Ok, Err, IfErr, OnErr, is_ok, false}
+use Rattle.disk_base.specs.Image.{with_bytes, sector, AgreesOutside, HalfWritten}
+use Rattle.disk_base.proofs.Images.{sector_written, sector_behind, length-with_bytes, agrees_with_bytes, byte_of_range}
+use Rattle.std.proofs.lemmas.Grind.{same_number_lists}
 use Rattle.disk_base.specs.declared.device.DeviceFault.{DeviceFault}
 use Rattle.disk_base.specs.declared.device.DeviceFault.TheVariants.{Source, Target}
 use Rattle.resize_core.specs.declared.transfer.Transfer.{Transfer}
-use Rattle.resize_core.specs.Transfers.{IsCopied, AreCopied, OnlyWithin}
+use Rattle.resize_core.specs.Transfers.{IsCopied, AreCopied, OnlyWithin, OldOrWith}
 use Rattle.resize_core.specs.Finished.{IsFinished, IsCarriable, HasNoTable, LeavesNoTable, boot_transfer}
+use Rattle.resize_core.specs.Ready.{Work, IsDone, IsAtGate}
 use Rattle.resize_core.proofs.Copies.{begun_outside}
 
 pub zeros_long : length {A = ℕ} (replicate 512 0) ≡ 512
@@ -97,3 +100,44 @@ no_table_at_fault image (Err Target) none = tt
 -- the boot area leaves sector 0
 pub no_table_booting : (boot : ℕ) (old new : List ℕ) → AgreesOutside (512 * 1) (512 * (boot - 1)) old new → HasNoTable old → HasNoTable new
 no_table_booting boot old new agrees none = begun_outside (boot_transfer boot) old new agrees 0 (λ low. absurd (omega arith)) ∙ none
+
+-- disks that are equal in sector 0 and behind it
+same_of_first : (old new : List ℕ) → length new ≡ length old → sector new 0 ≡ sector old 0 → ((i : ℕ) → 512 ≤ i → slice_index new i ≡ slice_index old i) → new ≡ old
+same_of_first old new long first behind =
+    same_number_lists _ _ long (λ i h.
+    elim (cases_lt i 512) [
+      | inl small ↦
+      sym (byte_of_range new 0 512 i i (omega arith) small) ∙ ap (λ (bytes : List ℕ). slice_index bytes i) first ∙ byte_of_range old 0 512 i i (omega arith) small
+      | inr far ↦ behind i far
+    ])
+
+-- a write of sector 0 that failed left it as it was, or whole
+pub old_or_with : (old new bytes : List ℕ) → length bytes ≡ 512 → 512 ≤ length old → HalfWritten 0 bytes old new → OldOrWith 0 bytes old new
+old_or_with old new bytes long some half =
+    let same_length : length new ≡ length old = half.outside.same_length in
+    let behind : (i : ℕ) → 512 ≤ i → slice_index new i ≡ slice_index old i = λ i far. half.outside.after i (omega (arith, long)) in
+    let with_length = length-with_bytes old 0 bytes (omega (arith, long, some)) in
+    let written = agrees_with_bytes old 0 512 bytes (sym long) some in
+    elim (half.within 0 (omega (arith, long))) [
+      | inl same ↦ inl (same_of_first old new same_length same behind)
+      | inr wrote ↦ inr (same_of_first (with_bytes old 0 bytes) new (same_length ∙ sym with_length)
+      (wrote ∙ take_all 512 bytes (omega (arith, long)) ∙ sym (sector_zero old bytes long some))
+      (λ i far. behind i far ∙ sym (written.after i far)))
+    ]
+
+-- where one thing is so at every error, and where the result is one
+pub on_err : {A E P : Type 0} (r : Result A E) → P → OnErr r P
+on_err (Ok x) holds = tt
+on_err (Err e) holds = holds
+
+pub at_err : {A E P : Type 0} (r : Result A E) → false ≡ is_ok r → OnErr r P → P
+at_err (Ok x) is holds = absurd (false≢true is)
+at_err (Err e) is holds = holds
+
+-- the last write failed: there is no table, or the work is done
+pub at_gate : (work : Work) (source old booted new : List ℕ) → HasNoTable booted → (new ≡ with_bytes booted 0 work.table → IsDone work source old new)
+    → OldOrWith 0 work.table booted new → IsAtGate work source old new
+at_gate work source old booted new none finish half = elim half [
+  | inl same ↦ inr (inl (ap (λ image. sector image 0) same ∙ none))
+  | inr wrote ↦ inr (inr (finish wrote))
+]

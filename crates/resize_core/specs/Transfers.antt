@@ -1,6 +1,6 @@
 -- Sectors that are copied from one disk to another.
 use Rattle.std.specs.Prelude.{◌≡◌, ℕ, ◌+◌, ◌^◌, ◌<◌, ◌≤◌, ◌⊎◌, List, length, slice_index_or}
-use Rattle.disk_base.specs.Image.{sector}
+use Rattle.disk_base.specs.Image.{sector, with_bytes}
 use Rattle.disk_base.specs.Log.{Log}
 use Rattle.disk_base.specs.declared.device.DeviceFault.{DeviceFault}
 use Rattle.disk_base.specs.declared.device.DeviceFault.TheVariants.{Source, Target}
@@ -38,6 +38,10 @@ pub record IsBetween (source_sectors target_sectors : ℕ) (t : Transfer) : Type
   pub few_target : target_sectors ≤ 2 ^ 31
   pub source : t.from + t.count ≤ source_sectors
   pub target : t.to + t.count ≤ target_sectors
+
+-- a disk that is as it was, or has `bytes` from byte `from` on
+abbrev pub OldOrWith : ℕ → List ℕ → List ℕ → List ℕ → Type 0
+OldOrWith from bytes old new = (new ≡ old) ⊎ (new ≡ with_bytes old from bytes)
 
 -- the disk was not asked for between these two states of its log
 pub record SameAsks (old new : Log) : Type 0 where

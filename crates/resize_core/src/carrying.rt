@@ -4,8 +4,8 @@ ghost use Rattle.disk_base.specs.Faults.{Rose};
 ghost use Rattle.disk_base.specs.Image.{with_bytes};
 ghost use Rattle.disk_base.specs.Log.{IsWritable};
 ghost use Rattle.resize_core.specs.Finished.{IsFinished, LeavesNoTable};
-ghost use Rattle.resize_core.specs.Ready.{IsDone};
-ghost use Rattle.resize_core.specs.Transfers.{SameAsks, CauseOf};
+ghost use Rattle.resize_core.specs.Ready.{IsDone, IsAtGate};
+ghost use Rattle.resize_core.specs.Transfers.{SameAsks, CauseOf, OldOrWith};
 
 use crate::copying::{copy_all, copy_run};
 use crate::ready::Ready;
@@ -17,6 +17,7 @@ fn clear_table<T: Disk>(target: &mut T) -> Result<(), Failed>
     requires some { 0 < T.size target.old }
     requires writable { IsWritable (T.attached target.old) }
     ensures wrote { IsTrue T.tells → OnOk result (T.image target.new ≡ with_bytes (T.image target.old) 0 (replicate 512 0)) }
+    ensures half { IsTrue T.tells → OnErr result (OldOrWith 0 (replicate 512 0) (T.image target.old) (T.image target.new)) }
     ensures asks { IsTrue T.tells → SameAsks (T.log target.old) (T.log target.new) }
     ensures size { T.size target.new ≡ T.size target.old }
     ensures mode { T.attached target.new ≡ T.attached target.old }
@@ -34,6 +35,7 @@ fn put_table<T: Disk>(target: &mut T, table: &[u8; 512]) -> Result<(), Failed>
     requires some { 0 < T.size target.old }
     requires writable { IsWritable (T.attached target.old) }
     ensures wrote { IsTrue T.tells → OnOk result (T.image target.new ≡ with_bytes (T.image target.old) 0 table.now) }
+    ensures half { IsTrue T.tells → OnErr result (OldOrWith 0 table.now (T.image target.old) (T.image target.new)) }
     ensures sector { length table.now ≡ 512 }
     ensures asks { IsTrue T.tells → SameAsks (T.log target.old) (T.log target.new) }
     ensures size { T.size target.new ≡ T.size target.old }
@@ -49,7 +51,7 @@ fn put_table<T: Disk>(target: &mut T, table: &[u8; 512]) -> Result<(), Failed>
 
 /// Writes what is ready: sector 0 of the target as zeros, the contents by number, the boot area, and last
 /// the new sector 0, with a flush before and behind each table. It takes no memory. Where the source
-/// fails, the target has no table.
+/// fails, the target has no table; where the target fails, it is as it was, has no table, or is finished.
 pub fn carry_out<S: Blocks, T: Disk>(
     ready: &Ready,
     source: &mut S,
@@ -63,6 +65,7 @@ pub fn carry_out<S: Blocks, T: Disk>(
     ensures read { S.only_read source.old source.new }
     ensures finished { IsTrue S.tells → IsTrue T.tells → OnOk result (IsDone ready.now (S.image source.old) (T.image target.old) (T.image target.new)) }
     ensures no_table { IsTrue T.tells → IfErr result (LeavesNoTable (T.image target.new)) }
+    ensures gate { IsTrue S.tells → IsTrue T.tells → OnErr result (IsAtGate ready.now (S.image source.old) (T.image target.old) (T.image target.new)) }
     ensures asks { IsTrue T.tells → SameAsks (T.log target.old) (T.log target.new) }
     ensures size { T.size target.new ≡ T.size target.old }
     ensures mode { T.attached target.new ≡ T.attached target.old }

@@ -1,7 +1,10 @@
 -- From what preparing the work answers to what is due.
 use Rattle.std.proofs.Common.{◌≡◌, ◌⊎◌, ℕ, List, sym, subst, ◌∙◌, ◌≤◌, ◌+◌, ◌-◌, ◌^◌, min, arith, inl, inr, ◌<◌, ◌*◌, ◌/◌, ap, length}
 use Rattle.disk_base.specs.declared.device.Mode.{Mode}
+use Rattle.disk_base.specs.declared.device.DeviceFault.{DeviceFault}
+use Rattle.disk_base.specs.declared.device.DeviceFault.TheVariants.{Source as FailedSource, Target as FailedTarget}
 use Rattle.disk_base.specs.Log.{Log, Asked}
+use Rattle.resize_core.specs.Finished.{HasNoTable, LeavesNoTable}
 use Rattle.layout_plan.specs.declared.fault.NoPlan.{NoPlan}
 use Rattle.mbr_table.specs.Mbr.{Table}
 use Rattle.resize_core.specs.declared.refusal.MbrRefused.TheVariants.{NoPlan as Refused}
@@ -15,7 +18,7 @@ use Rattle.virt_top.specs.declared.stop.SourceFault.{SourceFault}
 use Rattle.virt_top.specs.declared.stop.SourceFault.TheVariants.{TooLarge, NoSignature, Entry, Overlap}
 use Rattle.virt_top.specs.declared.stop.Stop.{Stop}
 use Rattle.virt_top.specs.declared.stop.Stop.TheVariants.{NotYet, Source, NoPlan as Unplanned, SourceDevice, TargetDevice, Memory, Printing}
-use Rattle.virt_top.specs.Outcome.{CauseOfStop, IsCutShort, IsFinishedWork, IsPreparedWork, IsStop, IsSummary, LeavesTarget, Never, PrintsUntil, IsUnready, IsEarlyStop, IsRefusedStop, Untouched}
+use Rattle.virt_top.specs.Outcome.{CauseOfStop, IsBegun, IsCutShort, IsFinishedWork, IsPreparedWork, IsStop, IsSummary, LeavesTarget, Never, PrintsUntil, IsUnready, IsEarlyStop, IsRefusedStop, Untouched, stop_of_device}
 use Rattle.virt_top.specs.Verdict.{sectors_of, IsServedTable, IsJudged}
 
 -- a refusal of the work for a table that is served
@@ -60,7 +63,7 @@ untouched_read name mode image mid new old asked log was same same_log =
     record { held = same ∙ was.held; log = subst Log_is (sym same_log) was.log }
 
 -- a stop after the first line is a device's or a sink's
-pub stop_of_begun : (source target : List ℕ) (stop : Stop) → LeavesTarget Never stop → IsStop source target stop
+pub stop_of_begun : (source target : List ℕ) (stop : Stop) → IsBegun stop → IsStop source target stop
 stop_of_begun source target NotYet begun = absurd begun
 stop_of_begun source target (Source fault) begun = absurd begun
 stop_of_begun source target (Unplanned fault) begun = absurd begun
@@ -68,6 +71,31 @@ stop_of_begun source target Memory begun = absurd begun
 stop_of_begun source target SourceDevice begun = tt
 stop_of_begun source target TargetDevice begun = tt
 stop_of_begun source target Printing begun = tt
+
+-- what a stop before the first line leaves of the target
+pub left_early : (untouched same no_table done : Type 0) (source target : List ℕ) (stop : Stop) → IsEarlyStop source target stop → untouched → same
+    → LeavesTarget untouched same no_table done stop
+left_early untouched same no_table done source target NotYet early kept held = kept
+left_early untouched same no_table done source target (Source fault) early kept held = kept
+left_early untouched same no_table done source target (Unplanned fault) early kept held = kept
+left_early untouched same no_table done source target SourceDevice early kept held = inl kept
+left_early untouched same no_table done source target TargetDevice early kept held = inl held
+left_early untouched same no_table done source target Memory early kept held = kept
+left_early untouched same no_table done source target Printing early kept held = absurd early
+
+-- what is left, told in other words
+pub left_as : (untouched untouched' same same' no_table done done' : Type 0) (stop : Stop) → (untouched → untouched') → (same → same') → (done → done')
+    → LeavesTarget untouched same no_table done stop → LeavesTarget untouched' same' no_table done' stop
+left_as untouched untouched' same same' no_table done done' NotYet keep hold finish left = keep left
+left_as untouched untouched' same same' no_table done done' (Source fault) keep hold finish left = keep left
+left_as untouched untouched' same same' no_table done done' (Unplanned fault) keep hold finish left = keep left
+left_as untouched untouched' same same' no_table done done' Memory keep hold finish left = keep left
+left_as untouched untouched' same same' no_table done done' SourceDevice keep hold finish left = elim left [ inl kept ↦ inl (keep kept) | inr none ↦ inr none ]
+left_as untouched untouched' same same' no_table done done' TargetDevice keep hold finish left = elim left [
+  | inl held ↦ inl (hold held)
+  | inr later ↦ elim later [ inl none ↦ inr (inl none) | inr finished ↦ inr (inr (finish finished)) ]
+]
+left_as untouched untouched' same same' no_table done done' Printing keep hold finish left = elim left [ inl kept ↦ inl (keep kept) | inr finished ↦ inr (finish finished) ]
 
 -- counts that rose since a later moment rose since an earlier one
 pub cause_since : (s s' s'' t t' t'' : ℕ) (out : Type 0) (stop : Stop) → s ≤ s' → t ≤ t' → CauseOfStop (Rose s' s'') (Rose t' t'') out stop → CauseOfStop (Rose s s'') (Rose t t'') out stop

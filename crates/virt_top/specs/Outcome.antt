@@ -9,12 +9,15 @@ use Rattle.disk_base.specs.Faults.{counted}
 use Rattle.mbr_table.specs.Mbr.{Table}
 use Rattle.resize_core.specs.declared.refusal.MbrRefused.{MbrRefused}
 use Rattle.resize_core.specs.declared.refusal.MbrRefused.TheVariants.{Overlap, NoPlan as Refused, Device as FailedDevice, Memory as NoMemory}
+use Rattle.layout_plan.specs.declared.fault.NoPlan.{NoPlan}
+use Rattle.resize_core.specs.Finished.{HasNoTable}
 use Rattle.resize_core.specs.Parts.{IsOverlap}
 use Rattle.resize_core.specs.Placing.{IsPlacing}
 use Rattle.resize_core.specs.Ready.{Work, IsDone}
 use Rattle.resize_core.specs.Same.{HasPlannedTable, ReadsSame}
 use Rattle.resize_core.specs.Targets.{IsRefusedFor}
 use Rattle.resize_core.specs.Transfers.{SameAsks}
+use Rattle.virt_top.specs.declared.stop.SourceFault.{SourceFault}
 use Rattle.virt_top.specs.declared.stop.SourceFault.TheVariants.{Overlap as SharedSector}
 use Rattle.virt_top.specs.declared.stop.Stop.{Stop}
 use Rattle.virt_top.specs.declared.stop.Stop.TheVariants.{NotYet, Source, NoPlan as Unplanned, SourceDevice, TargetDevice, Memory, Printing}
@@ -70,15 +73,24 @@ IsStop source target TargetDevice = Unit {0}
 IsStop source target Printing = Unit {0}
 IsStop source target stop = IsUnready source target stop
 
--- what a stop leaves of the target, and what it left on the way
-abbrev pub LeavesTarget : Type 0 → Stop → Type 0
-LeavesTarget untouched NotYet = untouched
-LeavesTarget untouched (Source fault) = untouched
-LeavesTarget untouched (Unplanned fault) = untouched
-LeavesTarget untouched Memory = untouched
-LeavesTarget untouched SourceDevice = Unit {0}
-LeavesTarget untouched TargetDevice = Unit {0}
-LeavesTarget untouched Printing = Unit {0}
+-- what a stop leaves of the target. Where nothing was written it is untouched. Where the source failed between the
+-- writes it has no table; where it failed itself it is the same, has no table, or is done; and where standard output
+-- failed nothing was written, or all
+abbrev pub LeavesTarget : Type 0 → Type 0 → Type 0 → Type 0 → Stop → Type 0
+LeavesTarget untouched same no_table done NotYet = untouched
+LeavesTarget untouched same no_table done (Source fault) = untouched
+LeavesTarget untouched same no_table done (Unplanned fault) = untouched
+LeavesTarget untouched same no_table done Memory = untouched
+LeavesTarget untouched same no_table done SourceDevice = untouched ⊎ no_table
+LeavesTarget untouched same no_table done TargetDevice = same ⊎ no_table ⊎ done
+LeavesTarget untouched same no_table done Printing = untouched ⊎ done
+
+-- a stop once lines are printed
+abbrev pub IsBegun : Stop → Type 0
+IsBegun SourceDevice = Unit {0}
+IsBegun TargetDevice = Unit {0}
+IsBegun Printing = Unit {0}
+IsBegun _ = ⊥
 
 -- the cause of a stop: which count rose
 abbrev pub CauseOfStop : Type 0 → Type 0 → Type 0 → Stop → Type 0
@@ -186,20 +198,31 @@ status_of Printing = 8
 status_of NotYet = 9
 
 -- a run that ended with this stop: it was due, and the target is as the stop leaves it
-pub record Stopped (words : List (List ℕ)) (source target : List ℕ) (untouched : Type 0) (stop : Stop) : Type 0 where
+pub record Stopped (words : List (List ℕ)) (source target target' : List ℕ) (untouched : Type 0) (stop : Stop) : Type 0 where
   pub due : IsDue words source target stop
-  pub target_left : LeavesTarget untouched stop
+  pub target_left : LeavesTarget untouched (target' ≡ target) (HasNoTable target') (IsFinishedWork source target target') stop
 
--- a run whose work is done
-pub record Done (words : List (List ℕ)) (source target target' : List ℕ) : Type 0 where
-  pub job : IsJob words
-  pub finished : IsFinishedWork source target target'
-
--- what a run's status says: the work that is due is done, or the run stopped as the status says
-abbrev pub Outcome : List (List ℕ) → List ℕ → List ℕ → List ℕ → Type 0 → ℕ → Type 0
-Outcome words source target target' untouched status =
-    ((status ≡ 0) × Done words source target target')
-    ⊎ ((stop : Stop) × (status ≡ status_of stop) × Stopped words source target untouched stop)
+-- what each status says of the words, of what the disks held and of what the target holds now; `untouched` says that the
+-- target is as it was and that nothing was written, given up or created
+pub record Outcome (words : List (List ℕ)) (source target target' : List ℕ) (untouched : Type 0) (status : ℕ) : Type 0 where
+  -- the work that is due is done
+  pub done : status ≡ 0 → IsJob words × IsFinishedWork source target target'
+  -- the source isn't valid
+  pub no_source : status ≡ 2 → untouched × IsJob words × (fault : SourceFault) × IsNoSource source fault
+  -- there is no plan
+  pub no_plan : status ≡ 4 → untouched × IsJob words × (fault : NoPlan) × HasNoPlanFor source target fault
+  -- the source failed
+  pub source_device : status ≡ 5 → (untouched ⊎ HasNoTable target') × IsJob words
+  -- the target failed
+  pub target_device : status ≡ 6 → ((target' ≡ target) ⊎ HasNoTable target' ⊎ IsFinishedWork source target target') × IsJob words
+  -- memory was refused
+  pub memory : status ≡ 7 → untouched
+  -- standard output failed
+  pub printing : status ≡ 8 → (untouched ⊎ IsFinishedWork source target target') × IsJob words
+  -- what is asked for isn't served yet
+  pub not_yet : status ≡ 9 → untouched × ((IsJob words → ⊥) ⊎ (IsJob words × IsUnserved source))
+  -- there is no other status
+  pub known : (status ≡ 0) ⊎ (status ≡ 2) ⊎ ((4 ≤ status) × (status ≤ 9))
 
 -- what a run printed
 abbrev pub Printed : Type 0 → List ℕ → List ℕ → List ℕ → List ℕ → List ℕ → ℕ → Type 0

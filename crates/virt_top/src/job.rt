@@ -1,6 +1,7 @@
 //! The job: attach, judge, plan, print, write.
 ghost use Rattle.std.specs.Prelude.{◌≡◌, ℕ, ◌++◌, ◌<◌, ◌≤◌, ◌^◌, IsTrue, OnOk, OnErr, IfOk, IfErr, length, string_bytes, List};
 ghost use Rattle.mbr_table.specs.Mbr.{IsSound};
+ghost use Rattle.resize_core.specs.Finished.{HasNoTable};
 ghost use Rattle.resize_core.specs.Parts.{LieApart};
 ghost use Rattle.resize_core.specs.Placing.{IsPlacing};
 ghost use Rattle.resize_core.specs.Targets.{HasNoExtended, IsReady};
@@ -188,7 +189,7 @@ pub fn copy<S: Disk, T: Disk, O: Sink>(
 ) -> Result<(), Stop>
     ensures source { IsTrue S.tells → Untouched source_name.now ToRead (S.image source.old) (S.image source.new) (S.log source.old) (S.log source.new) }
     ensures asked { IsTrue T.tells → AskedOnce target_name.now ToChange (T.log target.old) (T.log target.new) }
-    ensures target { IsTrue T.tells → IfErr result (LeavesTarget (Untouched target_name.now ToChange (T.image target.old) (T.image target.new) (T.log target.old) (T.log target.new))) }
+    ensures left { IsTrue S.tells → IsTrue T.tells → IfErr result (LeavesTarget (Untouched target_name.now ToChange (T.image target.old) (T.image target.new) (T.log target.old) (T.log target.new)) (T.image target.new ≡ T.image target.old) (HasNoTable (T.image target.new)) (IsFinishedWork (S.image source.old) (T.image target.old) (T.image target.new))) }
     ensures done { IsTrue S.tells → IsTrue T.tells → OnOk result (IsFinishedWork (S.image source.old) (T.image target.old) (T.image target.new)) }
     ensures stop { IsTrue S.tells → IsTrue T.tells → IfErr result (IsStop (S.image source.old) (T.image target.old)) }
     ensures printed { IsTrue S.tells → IsTrue T.tells → IsTrue O.tells_text → OnOk result (PrintsAll (S.image source.old) (T.image target.old) (O.text out.old) (O.text out.new)) }

@@ -2,10 +2,11 @@
 ghost use Rattle.std.specs.Prelude.{◌≡◌, ◌++◌, ◌≤◌, IsTrue, OnOk, IfErr, length};
 ghost use Rattle.disk_base.specs.Faults.{Rose};
 ghost use Rattle.disk_base.specs.Log.{IsWritable};
+ghost use Rattle.resize_core.specs.Finished.{HasNoTable};
 ghost use Rattle.resize_core.specs.Ready.{IsDone};
 ghost use Rattle.resize_core.specs.Transfers.{SameAsks};
 ghost use Rattle.virt_top.specs.Lines.{last_line};
-ghost use Rattle.virt_top.specs.Outcome.{CauseOfStop, GainsPrefix, IsCutShort, IsDeviceStop, IsSame, LeavesTarget, Never, stop_of_device};
+ghost use Rattle.virt_top.specs.Outcome.{CauseOfStop, GainsPrefix, IsCutShort, IsBegun, IsDeviceStop, IsSame, LeavesTarget, Never, stop_of_device};
 
 use crate::stop::Stop;
 use disk_base::{Blocks, DeviceFault, Disk, Sink};
@@ -46,6 +47,7 @@ fn carry<S: Blocks, T: Disk>(
     ensures read { S.only_read source.old source.new }
     ensures done { IsTrue S.tells → IsTrue T.tells → OnOk result (IsDone ready.now (S.image source.old) (T.image target.old) (T.image target.new)) }
     ensures asks { IsTrue T.tells → SameAsks (T.log target.old) (T.log target.new) }
+    ensures left { IsTrue S.tells → IsTrue T.tells → IfErr result (LeavesTarget Never (T.image target.new ≡ T.image target.old) (HasNoTable (T.image target.new)) (IsDone ready.now (S.image source.old) (T.image target.old) (T.image target.new))) }
     ensures device { IfErr result IsDeviceStop }
     ensures cause { IfErr result (CauseOfStop (Rose (S.faults source.old) (S.faults source.new)) (Rose (T.faults target.old) (T.faults target.new)) Never) }
 {
@@ -73,7 +75,8 @@ pub fn write<S: Blocks, T: Disk, O: Sink>(
     ensures asks { IsTrue T.tells → SameAsks (T.log target.old) (T.log target.new) }
     ensures printed { IsTrue O.tells_text → OnOk result (O.text out.new ≡ O.text out.old ++ summary.now ++ last_line) }
     ensures cut_short { IsTrue S.tells → IsTrue T.tells → IsTrue O.tells_text → IfErr result (IsCutShort (IsSame (T.image target.old) (T.image target.new) (T.log target.old) (T.log target.new)) (IsDone ready.now (S.image source.old) (T.image target.old) (T.image target.new)) summary.now (O.text out.old) (O.text out.new)) }
-    ensures begun { IfErr result (LeavesTarget Never) }
+    ensures left { IsTrue S.tells → IsTrue T.tells → IfErr result (LeavesTarget (IsSame (T.image target.old) (T.image target.new) (T.log target.old) (T.log target.new)) (T.image target.new ≡ T.image target.old) (HasNoTable (T.image target.new)) (IsDone ready.now (S.image source.old) (T.image target.old) (T.image target.new))) }
+    ensures begun { IfErr result IsBegun }
     ensures cause { IfErr result (CauseOfStop (Rose (S.faults source.old) (S.faults source.new)) (Rose (T.faults target.old) (T.faults target.new)) (Rose (O.sink_faults out.old) (O.sink_faults out.new))) }
 {
     print(out, summary)?;

@@ -1,10 +1,11 @@
 -- The target is finished after all writes, and has no table where the source failed between them.
-use Rattle.std.proofs.Common.{rules, ◌≡◌, ℕ, ◌-◌, ◌*◌, List, length, ap, ◌∙◌, subst, replicate}
+use Rattle.std.proofs.Common.{rules, ◌≡◌, ℕ, ◌-◌, ◌*◌, List, length, ap, ◌∙◌, subst, replicate, inl, inr}
 use Rattle.disk_base.specs.Image.{with_bytes}
 use Rattle.resize_core.specs.declared.transfer.Transfer.{Transfer}
 use Rattle.resize_core.specs.Transfers.{AreCopied, IsCopied, OnlyWithin}
 use Rattle.resize_core.specs.Finished.{boot_transfer}
-use Rattle.resize_core.proofs.Finishing.{finished, no_table_cleared, no_table_within, no_table_at_fault, no_table_booting}
+use Rattle.resize_core.proofs.Finishing.{finished, no_table_cleared, no_table_within, no_table_at_fault, no_table_booting, on_err, at_err, at_gate}
+use Rattle.resize_core.specs.Ready.{Work}
 use Rattle.resize_core.proofs.carrying.carry_out.Goals as goal
 
 pub returns-in_err-copy_all-clause-no_table : goal.returns-in_err-copy_all-clause-no_table
@@ -23,6 +24,47 @@ returns-in_err-copy_run-clause-no_table g c = λ t.
     let Within : List Transfer → Type 0 = λ ts. OnlyWithin ts (g.T.Blocks.image c.clear_table.new.target) (g.T.Blocks.image c.copy_all.new.target) in
     let contents = no_table_within _ _ _ _ _ _ c.ready.invariant (subst Within c.as_slice.ensures.value (c.in_ok-copy_all.ensures.within t)) none in
     no_table_at_fault _ _ (no_table_booting c.ready.inside.boot _ _ (c.in_err-copy_run.ensures.within t) contents)
+
+pub returns-in_err-copy_all-clause-gate : goal.returns-in_err-copy_all-clause-gate
+returns-in_err-copy_all-clause-gate g c = λ s t.
+    let cleared : g.T.Blocks.image c.clear_table.new.target ≡ with_bytes (g.T.Blocks.image c.args.target.now) 0 (replicate 512 0) = search rules in
+    let target : g.T.Blocks.size c.args.target.now ≡ c.ready.inside.target_sectors = rw (← c.ready.view_is) at c.requires.target in
+    let none = no_table_cleared _ _ c.ready.inside.target_sectors (g.met.T.Blocks.whole c.args.target.now t ∙ ap (λ n. 512 * n) target) c.ready.invariant.some cleared in
+    let Within : List Transfer → Type 0 = λ ts. OnlyWithin ts (g.T.Blocks.image c.clear_table.new.target) (g.T.Blocks.image c.copy_all.new.target) in
+    on_err _ (inr (inl (no_table_within _ _ _ _ _ _ c.ready.invariant (subst Within c.as_slice.ensures.value (c.in_err-copy_all.ensures.within t)) none)))
+
+pub returns-in_err-copy_run-clause-gate : goal.returns-in_err-copy_run-clause-gate
+returns-in_err-copy_run-clause-gate g c = λ s t.
+    let cleared : g.T.Blocks.image c.clear_table.new.target ≡ with_bytes (g.T.Blocks.image c.args.target.now) 0 (replicate 512 0) = search rules in
+    let target : g.T.Blocks.size c.args.target.now ≡ c.ready.inside.target_sectors = rw (← c.ready.view_is) at c.requires.target in
+    let none = no_table_cleared _ _ c.ready.inside.target_sectors (g.met.T.Blocks.whole c.args.target.now t ∙ ap (λ n. 512 * n) target) c.ready.invariant.some cleared in
+    let Within : List Transfer → Type 0 = λ ts. OnlyWithin ts (g.T.Blocks.image c.clear_table.new.target) (g.T.Blocks.image c.copy_all.new.target) in
+    let contents = no_table_within _ _ _ _ _ _ c.ready.invariant (subst Within c.as_slice.ensures.value (c.in_ok-copy_all.ensures.within t)) none in
+    on_err _ (inr (inl (no_table_booting c.ready.inside.boot _ _ (c.in_err-copy_run.ensures.within t) contents)))
+
+pub returns-in_err-map_err-2-clause-gate : goal.returns-in_err-map_err-2-clause-gate
+returns-in_err-map_err-2-clause-gate g c = λ s t.
+    let cleared : g.T.Blocks.image c.clear_table.new.target ≡ with_bytes (g.T.Blocks.image c.args.target.now) 0 (replicate 512 0) = search rules in
+    let target : g.T.Blocks.size c.args.target.now ≡ c.ready.inside.target_sectors = rw (← c.ready.view_is) at c.requires.target in
+    let long = g.met.T.Blocks.whole c.args.target.now t ∙ ap (λ n. 512 * n) target in
+    let none = no_table_cleared _ _ c.ready.inside.target_sectors long c.ready.invariant.some cleared in
+    let Within : List Transfer → Type 0 = λ ts. OnlyWithin ts (g.T.Blocks.image c.clear_table.new.target) (g.T.Blocks.image c.copy_all.new.target) in
+    let contents = no_table_within _ _ _ _ _ _ c.ready.invariant (subst Within c.as_slice.ensures.value (c.in_ok-copy_all.ensures.within t)) none in
+    let booted = no_table_booting c.ready.inside.boot _ _ (c.in_ok-copy_run.ensures.within t) contents in
+    let same = g.met.S.Blocks.same_image _ _ c.in_ok-copy_all.ensures.read s in
+    let Copied : List Transfer → Type 0 = λ ts. AreCopied ts (length ts) (g.S.Blocks.image c.args.source.now) (g.T.Blocks.image c.clear_table.new.target) (g.T.Blocks.image c.copy_all.new.target) in
+    let Booted : List ℕ → Type 0 = λ image. IsCopied (boot_transfer c.ready.inside.boot) (c.ready.inside.boot - 1) image (g.T.Blocks.image c.copy_all.new.target) (g.T.Blocks.image c.copy_run.new.target) in
+    let inside = c.ready.inside in
+    let work : Work = record { plan = inside.planned; table = inside.table; boot = inside.boot; transfers = inside.transfers.items; source_sectors = inside.source_sectors; target_sectors = inside.target_sectors } in
+    let half = at_err c.put_table.result c.in_err-map_err-2.ensures.variant (c.put_table.ensures.half t) in
+    rw (← c.ready.view_is)
+    (on_err _ (at_gate work _ _ _ _ booted
+    (finished c.ready.inside.source_sectors c.ready.inside.target_sectors c.ready.inside.boot c.ready.inside.transfers.items c.ready.inside.table
+    (g.S.Blocks.image c.args.source.now) (g.T.Blocks.image c.args.target.now) (g.T.Blocks.image c.clear_table.new.target) (g.T.Blocks.image c.copy_all.new.target)
+    (g.T.Blocks.image c.copy_run.new.target) (g.T.Blocks.image c.put_table.new.target)
+    c.ready.invariant c.put_table.ensures.sector long cleared
+    (subst Copied c.as_slice.ensures.value (c.in_ok-copy_all.ensures.copied s t)) (subst Booted same (c.in_ok-copy_run.ensures.copied s t)))
+    half))
 
 pub returns-clause-finished : goal.returns-clause-finished
 returns-clause-finished g c = λ s t.

@@ -5,13 +5,31 @@ use Rattle.disk_base.specs.Faults.{Rose}
 use Rattle.virt_top.specs.Lines.{last_line}
 use Rattle.virt_top.specs.Outcome.{IsCutShort, IsSame}
 use Rattle.resize_core.specs.Ready.{IsDone}
-use Rattle.virt_top.proofs.WorkLemmas.{cause_since, finished_of, stop_of_begun, summary_of, until_of, untouched_read}
+use Rattle.virt_top.proofs.WorkLemmas.{cause_since, finished_of, left_as, left_early, stop_of_begun, summary_of, until_of, untouched_read}
 use Rattle.virt_top.proofs.job.copy.Goals as goal
 
 pub returns-in_err-write-clause-stop : goal.returns-in_err-write-clause-stop
 returns-in_err-write-clause-stop g c = λ s t.
     let p = err_from_is_err_and c.from_residual-in_err-write.result c.from_residual-in_err-write.ensures.1 in
     rw (p.1, p.2) (stop_of_begun _ _ _ c.in_err-write.ensures.begun)
+
+pub returns-in_err-prepared-clause-left : goal.returns-in_err-prepared-clause-left
+returns-in_err-prepared-clause-left g c = λ s t.
+    let p = err_from_is_err_and c.from_residual.result c.from_residual.ensures.1 in
+    let untouched = c.in_err-prepared.ensures.target t in
+    rw (p.1, p.2) (left_early _ _ _ _ _ _ c.in_err-prepared.field-0.0 (c.in_err-prepared.ensures.stop s t) untouched untouched.held)
+
+pub returns-in_err-write-clause-left : goal.returns-in_err-write-clause-left
+returns-in_err-write-clause-left g c = λ s t.
+    let p = err_from_is_err_and c.from_residual-in_err-write.result c.from_residual-in_err-write.ensures.1 in
+    let prepared = c.in_ok-prepared.ensures.work s t in
+    let untouched = c.in_ok-prepared.ensures.target t in
+    rw (p.1, p.2)
+    (left_as _ _ _ _ _ _ _ c.in_err-write.field-0.0
+    (λ same. untouched_read _ _ _ _ _ _ _ _ untouched same.held same.log)
+    (λ held. held ∙ untouched.held)
+    (λ done. finished_of _ _ _ _ _ _ _ (c.in_ok-prepared.ensures.source s).held untouched.held prepared done)
+    (c.in_err-write.ensures.left s t))
 
 pub returns-in_err-write-clause-cut_short : goal.returns-in_err-write-clause-cut_short
 returns-in_err-write-clause-cut_short g c = λ s t o.

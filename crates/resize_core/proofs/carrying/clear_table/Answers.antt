@@ -1,0 +1,10 @@
+-- A write of sector 0 that failed left it as it was, or zeros.
+use Rattle.std.proofs.Common.{rules, ◌≡◌, ℕ, ◌*◌, ◌≤◌, length, replicate, arith}
+use Rattle.resize_core.proofs.Finishing.{old_or_with, on_err, zeros_long}
+use Rattle.resize_core.proofs.carrying.clear_table.Goals as goal
+
+pub returns-in_err-write-clause-half : goal.returns-in_err-write-clause-half
+returns-in_err-write-clause-half g c = λ t.
+    let whole = g.met.T.Blocks.whole c.args.target.now t in
+    let some : 512 ≤ length (g.T.Blocks.image c.args.target.now) = omega (arith, whole, c.requires.some) in
+    on_err _ (old_or_with _ _ (replicate 512 0) zeros_long some (c.in_err-write.ensures.half t))
