@@ -107,7 +107,7 @@ same_of_first old new long first behind =
     same_number_lists _ _ long (λ i h.
     elim (cases_lt i 512) [
       | inl small ↦
-      sym (byte_of_range new 0 512 i i (omega arith) small) ∙ ap (λ (bytes : List ℕ). slice_index bytes i) first ∙ byte_of_range old 0 512 i i (omega arith) small
+          sym (byte_of_range new 0 512 i i (omega arith) small) ∙ ap (λ (bytes : List ℕ). slice_index bytes i) first ∙ byte_of_range old 0 512 i i (omega arith) small
       | inr far ↦ behind i far
     ])
 
@@ -121,8 +121,8 @@ old_or_with old new bytes long some half =
     elim (half.within 0 (omega (arith, long))) [
       | inl same ↦ inl (same_of_first old new same_length same behind)
       | inr wrote ↦ inr (same_of_first (with_bytes old 0 bytes) new (same_length ∙ sym with_length)
-      (wrote ∙ take_all 512 bytes (omega (arith, long)) ∙ sym (sector_zero old bytes long some))
-      (λ i far. behind i far ∙ sym (written.after i far)))
+          (wrote ∙ take_all 512 bytes (omega (arith, long)) ∙ sym (sector_zero old bytes long some))
+          (λ i far. behind i far ∙ sym (written.after i far)))
     ]
 
 -- where one thing is so at every error, and where the result is one

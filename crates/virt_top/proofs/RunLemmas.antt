@@ -1,5 +1,5 @@
 -- From what a job answers to what a run says.
-use Rattle.std.proofs.Common.{◌≡◌, ◌⊎◌, inl, inr, ℕ, List, refl, sym, subst, arith}
+use Rattle.std.proofs.Common.{◌≡◌, inl, inr, ℕ, List, refl, sym, subst, arith}
 use Rattle.disk_base.specs.declared.device.Mode.{Mode}
 use Rattle.disk_base.specs.Log.{Log}
 use Rattle.resize_core.specs.Finished.{HasNoTable}

@@ -1,16 +1,14 @@
 -- From what each step of judging the source answers to what is due.
-use Rattle.std.proofs.Common.{rules, ◌≡◌, ℕ, ◌+◌, ◌*◌, ◌/◌, ◌^◌, ◌<◌, ◌≤◌, ◌⊎◌, inl, inr, List, length, arith, refl, ◌∙◌, sym, ap, subst, Result, Ok, Err, IfErr, min, ◌-◌}
-use Rattle.disk_base.specs.Faults.{Rose, counted}
-use Rattle.disk_base.specs.Image.{sector}
+use Rattle.std.proofs.Common.{◌≡◌, ℕ, ◌*◌, ◌^◌, ◌<◌, ◌≤◌, inl, inr, List, length, arith, sym, subst, Result, Ok, Err, IfErr}
+use Rattle.disk_base.specs.Faults.{Rose}
 use Rattle.mbr_table.specs.declared.fault.MbrFault.{MbrFault}
 use Rattle.mbr_table.specs.declared.fault.MbrFault.TheVariants.{NoSignature as UnsignedDisk, Entry as BadEntry, Chain as BadChain, TooMany as TooManyRecords, Device as FailedDevice, Memory as RefusedMemory}
-use Rattle.mbr_table.specs.Mbr.{Table, IsMbrTable, HasMbrFault, IsProtective}
+use Rattle.mbr_table.specs.Mbr.{Table, IsMbrTable, HasMbrFault}
 use Rattle.resize_core.specs.Targets.{HasNoExtended}
-use Rattle.virt_top.specs.declared.stop.SourceFault.{SourceFault}
 use Rattle.virt_top.specs.declared.stop.SourceFault.TheVariants.{TooLarge, NoSignature, Entry, Overlap}
 use Rattle.virt_top.specs.declared.stop.Stop.{Stop}
 use Rattle.virt_top.specs.declared.stop.Stop.TheVariants.{NotYet, Source, NoPlan as Unplanned, SourceDevice, TargetDevice, Memory, Printing}
-use Rattle.virt_top.specs.Verdict.{sectors_of, IsSmall, IsOtherTable, IsOwnTable, IsServedTable, IsNoSource, HasExtended, IsRuled, IsUnserved, IsJudged, IsTableStop, CausedBySource, stop_of_fault}
+use Rattle.virt_top.specs.Verdict.{sectors_of, IsOwnTable, IsServedTable, IsNoSource, IsRuled, IsJudged, IsTableStop, CausedBySource, stop_of_fault}
 
 -- how many sectors a disk of whole sectors has
 pub sectors_is : (image : List ℕ) (n : ℕ) → length image ≡ 512 * n → sectors_of image ≡ n

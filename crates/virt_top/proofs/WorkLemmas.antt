@@ -1,24 +1,19 @@
 -- From what preparing the work answers to what is due.
-use Rattle.std.proofs.Common.{◌≡◌, ◌⊎◌, ℕ, List, sym, subst, ◌∙◌, ◌≤◌, ◌+◌, ◌-◌, ◌^◌, min, arith, inl, inr, ◌<◌, ◌*◌, ◌/◌, ap, length}
+use Rattle.std.proofs.Common.{◌≡◌, ◌⊎◌, ℕ, List, sym, subst, ◌∙◌, ◌≤◌, arith, inl, inr, ◌<◌, ◌*◌, ap, length}
 use Rattle.disk_base.specs.declared.device.Mode.{Mode}
-use Rattle.disk_base.specs.declared.device.DeviceFault.{DeviceFault}
-use Rattle.disk_base.specs.declared.device.DeviceFault.TheVariants.{Source as FailedSource, Target as FailedTarget}
 use Rattle.disk_base.specs.Log.{Log, Asked}
-use Rattle.resize_core.specs.Finished.{HasNoTable, LeavesNoTable}
-use Rattle.layout_plan.specs.declared.fault.NoPlan.{NoPlan}
 use Rattle.mbr_table.specs.Mbr.{Table}
 use Rattle.resize_core.specs.declared.refusal.MbrRefused.TheVariants.{NoPlan as Refused}
 use Rattle.disk_base.specs.Image.{bytes_at, sector}
 use Rattle.disk_base.proofs.Images.{length-bytes_at}
 use Rattle.resize_core.proofs.ReadBack.{has_planned_table, reads_same}
-use Rattle.disk_base.specs.Faults.{Rose, counted}
+use Rattle.disk_base.specs.Faults.{Rose}
 use Rattle.resize_core.specs.Ready.{Work, IsDone}
 use Rattle.resize_core.specs.Targets.{IsRefusedFor}
-use Rattle.virt_top.specs.declared.stop.SourceFault.{SourceFault}
 use Rattle.virt_top.specs.declared.stop.SourceFault.TheVariants.{TooLarge, NoSignature, Entry, Overlap}
 use Rattle.virt_top.specs.declared.stop.Stop.{Stop}
 use Rattle.virt_top.specs.declared.stop.Stop.TheVariants.{NotYet, Source, NoPlan as Unplanned, SourceDevice, TargetDevice, Memory, Printing}
-use Rattle.virt_top.specs.Outcome.{CauseOfStop, IsBegun, IsCutShort, IsFinishedWork, IsPreparedWork, IsStop, IsSummary, LeavesTarget, Never, PrintsUntil, IsUnready, IsEarlyStop, IsRefusedStop, Untouched, stop_of_device}
+use Rattle.virt_top.specs.Outcome.{CauseOfStop, IsBegun, IsCutShort, IsFinishedWork, IsPreparedWork, IsStop, IsSummary, LeavesTarget, PrintsUntil, IsUnready, IsEarlyStop, IsRefusedStop, Untouched}
 use Rattle.virt_top.specs.Verdict.{sectors_of, IsServedTable, IsJudged}
 
 -- a refusal of the work for a table that is served

@@ -1,11 +1,9 @@
 -- What a run leaves behind, status by status.
-use Rattle.std.specs.Prelude.{◌≡◌, ℕ, ◌+◌, ◌<◌, ◌≤◌, ◌⊎◌, List, [], ◌++◌, length, take, max}
+use Rattle.std.specs.Prelude.{◌≡◌, ℕ, ◌≤◌, ◌⊎◌, List, ◌++◌, take}
 use Rattle.disk_base.specs.declared.device.Mode.{Mode}
-use Rattle.disk_base.specs.declared.device.Mode.TheVariants.{Read, Change}
 use Rattle.disk_base.specs.declared.device.DeviceFault.{DeviceFault}
 use Rattle.disk_base.specs.declared.device.DeviceFault.TheVariants.{Source as FailedSource, Target as FailedTarget}
-use Rattle.disk_base.specs.Log.{Log, Asked, created}
-use Rattle.disk_base.specs.Faults.{counted}
+use Rattle.disk_base.specs.Log.{Log, Asked}
 use Rattle.mbr_table.specs.Mbr.{Table}
 use Rattle.resize_core.specs.declared.refusal.MbrRefused.{MbrRefused}
 use Rattle.resize_core.specs.declared.refusal.MbrRefused.TheVariants.{Overlap, NoPlan as Refused, Device as FailedDevice, Memory as NoMemory}
@@ -23,7 +21,7 @@ use Rattle.virt_top.specs.declared.stop.Stop.{Stop}
 use Rattle.virt_top.specs.declared.stop.Stop.TheVariants.{NotYet, Source, NoPlan as Unplanned, SourceDevice, TargetDevice, Memory, Printing}
 use Rattle.virt_top.specs.Lines.{lines_of, last_line, stop_line, IsNotYetLine}
 use Rattle.virt_top.specs.Verdict.{sectors_of, IsWork, IsDue, IsUnserved, IsNoSource, HasNoPlanFor}
-use Rattle.virt_top.specs.Words.{IsJob, source_name, target_name, word_at}
+use Rattle.virt_top.specs.Words.{IsJob, word_at}
 
 -- a disk that was asked for at most once, by that name and mode, and not written, given up or created since
 pub record Untouched (name : List ℕ) (mode : Mode) (image image' : List ℕ) (old new : Log) : Type 0 where

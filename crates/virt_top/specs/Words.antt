@@ -1,5 +1,5 @@
 -- The words of the command line that are served.
-use Rattle.std.specs.Prelude.{◌≡◌, ◌≢◌, ℕ, ◌≤◌, List, [], length, slice_index, slice_index_or, codes, Bool, not, ◌&&◌, ◌==◌, nat_lt, IsTrue, if◌then◌else◌, false}
+use Rattle.std.specs.Prelude.{◌≡◌, ◌≢◌, ℕ, List, [], length, slice_index, slice_index_or, codes, Bool, ◌&&◌, ◌==◌, nat_lt, false}
 
 -- a word that names a disk: not an option, which begins with `-` and goes on
 abbrev pub is_option : List ℕ → Bool

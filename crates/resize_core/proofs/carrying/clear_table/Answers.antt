@@ -1,5 +1,5 @@
 -- A write of sector 0 that failed left it as it was, or zeros.
-use Rattle.std.proofs.Common.{rules, ◌≡◌, ℕ, ◌*◌, ◌≤◌, length, replicate, arith}
+use Rattle.std.proofs.Common.{◌≤◌, length, replicate, arith}
 use Rattle.resize_core.proofs.Finishing.{old_or_with, on_err, zeros_long}
 use Rattle.resize_core.proofs.carrying.clear_table.Goals as goal
 

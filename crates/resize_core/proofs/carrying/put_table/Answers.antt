@@ -1,5 +1,5 @@
 -- A write of sector 0 that failed left it as it was, or whole.
-use Rattle.std.proofs.Common.{rules, ◌≡◌, ℕ, ◌*◌, ◌≤◌, List, length, arith, subst}
+use Rattle.std.proofs.Common.{rules, ◌≡◌, ℕ, ◌≤◌, List, length, arith, subst}
 use Rattle.resize_core.specs.Transfers.{OldOrWith}
 use Rattle.resize_core.proofs.Finishing.{old_or_with, on_err}
 use Rattle.resize_core.proofs.carrying.put_table.Goals as goal

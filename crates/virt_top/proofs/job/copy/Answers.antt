@@ -1,6 +1,6 @@
 -- What was prepared is what is due, and the attached disks hold what they held.
 use Rattle.std.proofs.lemmas.Result.{err_from_is_err_and}
-use Rattle.std.proofs.Common.{rules, ◌≡◌, ℕ, List, ◌++◌, sym, subst, ap, ◌∙◌, string_bytes}
+use Rattle.std.proofs.Common.{ℕ, List, ◌++◌, subst, ap, ◌∙◌, string_bytes}
 use Rattle.disk_base.specs.Faults.{Rose}
 use Rattle.virt_top.specs.Lines.{last_line}
 use Rattle.virt_top.specs.Outcome.{IsCutShort, IsSame}

@@ -1,11 +1,11 @@
 -- The work of the table that judging the source gave.
 use Rattle.std.proofs.lemmas.Result.{err_from_is_err_and}
-use Rattle.std.proofs.Common.{rules, ◌≡◌, ℕ, List, sym, subst, ◌∙◌}
+use Rattle.std.proofs.Common.{◌≡◌, ℕ, sym, subst, ◌∙◌}
 use Rattle.resize_core.specs.Placing.{IsPlacing}
 use Rattle.resize_core.specs.Targets.{IsReady}
 use Rattle.virt_top.specs.Verdict.{sectors_of}
 use Rattle.virt_top.proofs.SourceLemmas.{sectors_is}
-use Rattle.virt_top.proofs.WorkLemmas.{unready_of, unready_judged}
+use Rattle.virt_top.proofs.WorkLemmas.{unready_of}
 use Rattle.virt_top.proofs.job.prepare.Goals as goal
 
 pub returns-in_err-prepared-clause-stop : goal.returns-in_err-prepared-clause-stop

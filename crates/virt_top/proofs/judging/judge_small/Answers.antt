@@ -1,8 +1,8 @@
 -- What the second call says of the source as the first one left it holds of the source at the entry.
 use Rattle.std.proofs.lemmas.Result.{err_from_is_err_and}
-use Rattle.std.proofs.Common.{rules, ◌≡◌, ◌<◌, ◌≤◌, ℕ, List, arith, subst, sym, true, false}
+use Rattle.std.proofs.Common.{◌≡◌, ℕ, List, arith, subst, true, false}
 use Rattle.mbr_table.specs.Mbr.{IsSound}
-use Rattle.virt_top.specs.Verdict.{IsRuled, IsServedTable, IsJudged}
+use Rattle.virt_top.specs.Verdict.{IsRuled, IsServedTable}
 use Rattle.virt_top.proofs.SourceLemmas.{judged_other, stop_since}
 use Rattle.virt_top.proofs.judging.judge_small.Goals as goal
 

@@ -1,4 +1,3 @@
-use Rattle.std.proofs.Common.{◌≡◌}
 use Rattle.virt_top.proofs.SourceLemmas.{table_stop}
 use Rattle.virt_top.proofs.judging.own_table.Goals as goal
 

@@ -1,5 +1,4 @@
 -- Each arm's text is the line of that refusal.
-use Rattle.std.proofs.Common.{◌≡◌}
 use Rattle.virt_top.proofs.lines.no_plan_line.Goals as goal
 
 pub returns-in-TooSmall : goal.returns-in-TooSmall

@@ -1,5 +1,4 @@
 -- Each arm's line is that of its stop.
-use Rattle.std.proofs.Common.{◌≡◌}
 use Rattle.virt_top.proofs.report.report.Goals as goal
 
 pub returns-in-SourceDevice-clause-line : goal.returns-in-SourceDevice-clause-line
