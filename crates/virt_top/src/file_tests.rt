@@ -2,7 +2,7 @@ use crate::files::FileDisk;
 use disk_base::{Blocks, Disk, Failed, Mode};
 use std::alloc::Global;
 use std::fs::OpenOptions;
-use std::os::unix::fs::symlink;
+use std::os::unix::fs::{MetadataExt, symlink};
 use std::test::Fail;
 use std::{env, fs, io};
 
@@ -20,9 +20,8 @@ fn within(alloc: Global, folder: &str, name: &str) -> io::Result<String> {
     Ok(format!(in alloc; "{folder}/{name}")?)
 }
 
-// Writes sector 1 of four, reads it back, gives up sectors 1 and 2 twice, once over
-// bytes and once over zeros, and flushes: what was read, where all
-// went well.
+// Writes sector 1 of four, reads it back, gives up sectors 1 and 2 twice, once over bytes and once over
+// zeros, and flushes: what was read, where all went well.
 fn change(disk: &mut FileDisk<'_, HostRuntime>, path: &str) -> Option<[u8; 512]> {
     let Ok(()) = disk.attach(path.as_bytes(), Mode::Change) else {
         return None;
@@ -74,6 +73,25 @@ fn a_file_is_a_disk(rt: HostRuntime) -> Result<(), Fail> {
     let missing = within(alloc, folder.as_str(), "missing")?;
     let mut disk = FileDisk::new(&rt);
     assert_eq!(rt; disk.attach(missing.as_bytes(), Mode::Read), Err(Failed));
+    assert_eq!(rt; disk.attach(folder.as_bytes(), Mode::Read), Err(Failed));
+    fs::remove_dir_all(&rt, folder.as_str())?;
+    Ok(())
+}
+
+// A file of nothing but a hole takes no more room when it is given up.
+#[test]
+fn a_hole_stays_a_hole(rt: HostRuntime) -> Result<(), Fail> {
+    let alloc = rt.alloc();
+    let folder = folder(&rt, "hole")?;
+    let path = within(alloc, folder.as_str(), "a.img")?;
+    let mut disk = FileDisk::new(&rt);
+    assert_eq!(rt; disk.attach(path.as_bytes(), Mode::Create(2048)), Ok(()));
+    if disk.can_discard() && disk.sectors() == 2048 {
+        assert_eq!(rt; disk.discard(1, 2000), Ok(()));
+    }
+    assert_eq!(rt; disk.flush(), Ok(()));
+    let found = fs::metadata(&rt, path.as_str())?;
+    assert_eq!(rt; (found.len(), found.blocks()), (1048576, 0));
     fs::remove_dir_all(&rt, folder.as_str())?;
     Ok(())
 }

@@ -4,14 +4,16 @@ ghost use Rattle.disk_base.specs.Faults.{Rose};
 ghost use Rattle.disk_base.specs.Log.{HasSectors};
 
 use disk_base::{Blocks, Disk, Failed, Mode, SECTOR};
-use std::fs::{File, OpenFile, OpenOptions};
+use std::fs::{self, File, OpenFile, OpenOptions};
 use std::io::{Read, Seek, SeekFrom, Write};
+use std::os::unix::fs::FileTypeExt;
 use std::rt::Files;
 
 /// The sectors that a discard looks at and clears at once.
 const PIECE: u64 = 8;
 
 /// A file or block device by its path, as a disk that tells nothing of what it holds and counts its faults.
+/// Anything else of that name is answered `Failed`.
 ///
 /// Its sectors are the length divided by 512, rounded down. An attach takes the file's lock, shared to read
 /// and exclusive to change, and never waits for it: while another disk holds the file, also under another
@@ -71,17 +73,36 @@ fn make_blank(file: &mut File, n: u64) -> Result<(), Failed>
     Ok(())
 }
 
+// Whether a name may be a disk's: a file's, a block device's, or nobody's yet. The length of a folder means
+// nothing, and a pipe would be waited for.
+fn may_be_disk<R: Files<File = File>>(files: &R, name: &str) -> bool {
+    match fs::metadata(files, name) {
+        Ok(found) => found.is_file() || found.file_type().is_block_device(),
+        Err(_) => true,
+    }
+}
+
+// Opens the file of that name, and changes nothing of it. Its descriptor lies above those of the standard
+// streams, also where one of these is closed: no line may come to stand in a disk.
+fn open_file<R: Files<File = File>>(files: &R, name: &[u8], mode: Mode) -> Result<File, Failed> {
+    let name = str::from_utf8(name).map_err(|_| Failed)?;
+    if !may_be_disk(files, name) {
+        return Err(Failed);
+    }
+    let mut options = OpenOptions::new();
+    options.read(true);
+    options.write(mode != Mode::Read);
+    options.create(matches!(mode, Mode::Create(_)));
+    let opened = options.open(files, name).map_err(|_| Failed)?;
+    opened.try_clone().map_err(|_| Failed)
+}
+
 // Opens the file of that name, with its number of sectors. Nothing of it is changed before its lock is held.
 fn open<R: Files<File = File>>(files: &R, name: &[u8], mode: Mode) -> Result<(File, u64), Failed>
     ensures created { IfOk result (λ opened. HasSectors mode opened.1) }
     ensures small { IfOk result (λ opened. 512 * opened.1 < 2 ^ 64) }
 {
-    let name = str::from_utf8(name).map_err(|_| Failed)?;
-    let mut options = OpenOptions::new();
-    options.read(true);
-    options.write(mode != Mode::Read);
-    options.create(matches!(mode, Mode::Create(_)));
-    let mut file = options.open(files, name).map_err(|_| Failed)?;
+    let mut file = open_file(files, name, mode)?;
     lock(&file, mode)?;
     if let Mode::Create(n) = mode {
         make_blank(&mut file, n)?;
