@@ -1,10 +1,34 @@
-.PHONY: build test
+PREFIX = /usr/local
+PROGRAM = crates/virt_top/out/virt_top
 
-# Proves and builds the program; the first time takes some minutes, since every function is proved.
+.PHONY: build demo test install bench
+
+# Proves and builds the program.
 build:
-	cd crates/virt_top && rt run -- virt-resize > /dev/null 2>&1 || test $$? -eq 9
-	test -x crates/virt_top/out/virt_top
+	@echo "Proving and building the program. The first time this takes about ten minutes, since every"
+	@echo "function is proved to meet its contract before it is compiled; build/build.log tells how far it is."
+	@mkdir -p build
+	@cd crates/virt_top && rt run -- virt-resize > ../../build/build.log 2>&1; test $$? -eq 9 || { tail -n 20 ../../build/build.log; exit 1; }
+	@test -x $(PROGRAM)
 
-# The gate: every proof from nothing, the must-fail edits, the tests and the programs.
+# Copies a sample disk to a larger one, and shows what became of it.
+demo: build
+	@demo/run
+
+# The gate: every proof from nothing, the must-fail edits, the tests, the programs, and real tools over real files.
 test:
 	.ci/run
+
+# Installs the program, the two commands and the manual below PREFIX.
+install: build
+	install -D -m 755 $(PROGRAM) $(DESTDIR)$(PREFIX)/libexec/virt_top
+	install -d $(DESTDIR)$(PREFIX)/bin
+	for command in virt-resize virt-sparsify; do \
+	    sed 's|^program=.*|program=$(PREFIX)/libexec/virt_top|' bin/$$command > $(DESTDIR)$(PREFIX)/bin/$$command && \
+	    chmod 755 $(DESTDIR)$(PREFIX)/bin/$$command || exit 1; \
+	done
+	install -D -m 644 man/virt-resize.1 $(DESTDIR)$(PREFIX)/share/man/man1/virt-resize.1
+
+# Times the program beside cp and dd.
+bench: build
+	bench/run
