@@ -279,14 +279,34 @@ fn what_is_no_job_or_no_source_is_told(rt: HostRuntime) -> Result<(), Fail> {
     Ok(())
 }
 
-// Copies the disk with one partition onto one of bytes 5A, with a call that fails: the status, the line on
-// standard error, and a byte of sector 0, which tells what it was (5A), zeros (0) or a new table (55).
-fn failing_copy(alloc: Global, failing: Failing) -> Result<(u8, Vec<u8>, Option<u8>), AllocError> {
+// What a run over a disk of bytes 5A leaves: its status, its lines, and a byte of sector 0, which tells what
+// that was (5A), zeros (0) or a new table (55).
+#[derive(Drop)]
+struct Left {
+    status: u8,
+    out: Vec<u8>,
+    err: Vec<u8>,
+    table: Option<u8>,
+}
+
+// Copies the disk with one partition, with a call that fails.
+fn failing_copy(alloc: Global, failing: Failing) -> Result<Left, AllocError> {
     let source = with_slots(alloc, 65536, 75, &[(0x83, 2048, 20480)])?;
     let target = filled(alloc, 65536, 0x5A)?;
     let left = after_run(alloc, &["virt-resize", "a", "b"], source, target, failing)?;
-    Ok((left.status, left.err, left.target.get(510).copied()))
+    Ok(Left {
+        status: left.status,
+        out: left.out,
+        err: left.err,
+        table: left.target.get(510).copied(),
+    })
 }
+
+const SUMMARY: &[u8] =
+    b"/dev/sda1: kept 2048+20480 -> /dev/sda1 2048+20480\nextra: /dev/sda2 22528+43008\n";
+
+const ALL: &[u8] =
+    b"/dev/sda1: kept 2048+20480 -> /dev/sda1 2048+20480\nextra: /dev/sda2 22528+43008\ndone\n";
 
 const SOURCE: &[u8] = b"virt-resize: source device\n";
 
@@ -298,30 +318,28 @@ const PRINTING: &[u8] = b"virt-resize: printing\n";
 #[test]
 fn each_call_of_the_source_may_fail(rt: HostRuntime) -> Result<(), Fail> {
     let alloc = rt.alloc();
-    for number in 0..14 {
+    for number in 0..15 {
         let failing = Failing {
             source: Some(number),
             ..NONE
         };
-        let (status, line, byte) = failing_copy(alloc, failing)?;
-        let table = if number < 3 { 0x5A } else { 0 };
+        let left = failing_copy(alloc, failing)?;
+        let (status, out, err, table) = match number {
+            0..=2 => (5, b"".as_slice(), SOURCE, 0x5A),
+            14 => (0, ALL, b"".as_slice(), 0x55),
+            _ => (5, SUMMARY, SOURCE, 0),
+        };
         assert_eq!(rt;
-            (status, line.as_slice(), byte),
-            (5, SOURCE, Some(table)),
+            (left.status, left.table),
+            (status, Some(table)),
+            "call {number}"
+        );
+        assert_eq!(rt;
+            (left.out.as_slice(), left.err.as_slice()),
+            (out, err),
             "call {number}"
         );
     }
-    let (status, line, byte) = failing_copy(
-        alloc,
-        Failing {
-            source: Some(14),
-            ..NONE
-        },
-    )?;
-    assert_eq!(rt;
-        (status, line.as_slice(), byte),
-        (0, b"".as_slice(), Some(0x55))
-    );
     Ok(())
 }
 
@@ -329,84 +347,69 @@ fn each_call_of_the_source_may_fail(rt: HostRuntime) -> Result<(), Fail> {
 #[test]
 fn each_call_of_the_target_may_fail(rt: HostRuntime) -> Result<(), Fail> {
     let alloc = rt.alloc();
-    for number in 0..17 {
+    for number in 0..18 {
         let failing = Failing {
             target: Some(number),
             ..NONE
         };
-        let (status, line, byte) = failing_copy(alloc, failing)?;
-        let table = match number {
-            0 | 1 => 0x5A,
-            16 => 0x55,
-            _ => 0,
+        let left = failing_copy(alloc, failing)?;
+        let (status, out, err, table) = match number {
+            0 => (6, b"".as_slice(), TARGET, 0x5A),
+            1 => (6, SUMMARY, TARGET, 0x5A),
+            16 => (6, SUMMARY, TARGET, 0x55),
+            17 => (0, ALL, b"".as_slice(), 0x55),
+            _ => (6, SUMMARY, TARGET, 0),
         };
         assert_eq!(rt;
-            (status, line.as_slice(), byte),
-            (6, TARGET, Some(table)),
+            (left.status, left.table),
+            (status, Some(table)),
+            "call {number}"
+        );
+        assert_eq!(rt;
+            (left.out.as_slice(), left.err.as_slice()),
+            (out, err),
             "call {number}"
         );
     }
-    let (status, line, byte) = failing_copy(
-        alloc,
-        Failing {
-            target: Some(17),
-            ..NONE
-        },
-    )?;
-    assert_eq!(rt;
-        (status, line.as_slice(), byte),
-        (0, b"".as_slice(), Some(0x55))
-    );
     Ok(())
 }
 
+// What a stream that fails leaves, where it takes nothing then.
 #[test]
 fn each_stream_may_fail(rt: HostRuntime) -> Result<(), Fail> {
     let alloc = rt.alloc();
-    let cases: [(Failing, u8, &[u8], u8); 4] = [
-        (
-            Failing {
-                out: Some(0),
-                ..NONE
-            },
-            8,
-            PRINTING,
-            0x5A,
-        ),
-        (
-            Failing {
-                out: Some(1),
-                ..NONE
-            },
-            8,
-            PRINTING,
-            0x55,
-        ),
-        (
-            Failing {
-                source: Some(0),
-                err: Some(0),
-                ..NONE
-            },
-            5,
-            b"",
-            0x5A,
-        ),
-        (
-            Failing {
-                err: Some(0),
-                ..NONE
-            },
-            0,
-            b"",
-            0x55,
-        ),
+    let first = Failing {
+        out: Some(0),
+        ..NONE
+    };
+    let second = Failing {
+        out: Some(1),
+        ..NONE
+    };
+    let unheard = Failing {
+        err: Some(0),
+        ..NONE
+    };
+    let both = Failing {
+        source: Some(0),
+        ..unheard
+    };
+    let cases: [(Failing, u8, &[u8], &[u8], u8); 4] = [
+        (first, 8, b"", PRINTING, 0x5A),
+        (second, 8, SUMMARY, PRINTING, 0x55),
+        (both, 5, b"", b"", 0x5A),
+        (unheard, 0, ALL, b"", 0x55),
     ];
-    for (failing, want, text, table) in cases {
-        let (status, line, byte) = failing_copy(alloc, failing)?;
+    for (failing, status, out, err, table) in cases {
+        let left = failing_copy(alloc, failing)?;
         assert_eq!(rt;
-            (status, line.as_slice(), byte),
-            (want, text, Some(table)),
+            (left.status, left.table),
+            (status, Some(table)),
+            "at {failing:?}"
+        );
+        assert_eq!(rt;
+            (left.out.as_slice(), left.err.as_slice()),
+            (out, err),
             "at {failing:?}"
         );
     }
