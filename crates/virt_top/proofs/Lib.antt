@@ -1,3 +1,4 @@
 pub mod RunLemmas
 pub mod SourceLemmas
+pub mod VerdictLemmas
 pub mod WorkLemmas

@@ -23,7 +23,7 @@ due_of words source target (Unplanned fault) job stopped = (job, stopped)
 due_of words source target SourceDevice job stopped = job
 due_of words source target TargetDevice job stopped = job
 due_of words source target Memory job stopped = tt
-due_of words source target Printing job stopped = job
+due_of words source target Printing job stopped = (job, stopped)
 
 -- a refusal leaves the target untouched
 pub refusal_keeps : (untouched same no_table done : Type 0) (stop : Stop) → IsRefusal stop → LeavesTarget untouched same no_table done stop → untouched
@@ -72,7 +72,7 @@ outcome_of words source target target' untouched NotYet stopped = record {
   memory = λ is. absurd (omega (arith, is));
   printing = λ is. absurd (omega (arith, is));
   not_yet = λ is. (stopped.target_left, stopped.due);
-  known = inr (inr (omega arith, omega arith));
+  known = inr (inr (inr (inr (inr refl))));
 }
 outcome_of words source target target' untouched (Source fault) stopped = record {
   done = λ is. absurd (omega (arith, is));
@@ -94,7 +94,7 @@ outcome_of words source target target' untouched (Unplanned fault) stopped = rec
   memory = λ is. absurd (omega (arith, is));
   printing = λ is. absurd (omega (arith, is));
   not_yet = λ is. absurd (omega (arith, is));
-  known = inr (inr (omega arith, omega arith));
+  known = inr (inr (inl refl));
 }
 outcome_of words source target target' untouched SourceDevice stopped = record {
   done = λ is. absurd (omega (arith, is));
@@ -105,7 +105,7 @@ outcome_of words source target target' untouched SourceDevice stopped = record {
   memory = λ is. absurd (omega (arith, is));
   printing = λ is. absurd (omega (arith, is));
   not_yet = λ is. absurd (omega (arith, is));
-  known = inr (inr (omega arith, omega arith));
+  known = inr (inr (inr (inl (omega arith, omega arith))));
 }
 outcome_of words source target target' untouched TargetDevice stopped = record {
   done = λ is. absurd (omega (arith, is));
@@ -116,7 +116,7 @@ outcome_of words source target target' untouched TargetDevice stopped = record {
   memory = λ is. absurd (omega (arith, is));
   printing = λ is. absurd (omega (arith, is));
   not_yet = λ is. absurd (omega (arith, is));
-  known = inr (inr (omega arith, omega arith));
+  known = inr (inr (inr (inl (omega arith, omega arith))));
 }
 outcome_of words source target target' untouched Memory stopped = record {
   done = λ is. absurd (omega (arith, is));
@@ -127,7 +127,7 @@ outcome_of words source target target' untouched Memory stopped = record {
   memory = λ is. stopped.target_left;
   printing = λ is. absurd (omega (arith, is));
   not_yet = λ is. absurd (omega (arith, is));
-  known = inr (inr (omega arith, omega arith));
+  known = inr (inr (inr (inl (omega arith, omega arith))));
 }
 outcome_of words source target target' untouched Printing stopped = record {
   done = λ is. absurd (omega (arith, is));
@@ -136,9 +136,9 @@ outcome_of words source target target' untouched Printing stopped = record {
   source_device = λ is. absurd (omega (arith, is));
   target_device = λ is. absurd (omega (arith, is));
   memory = λ is. absurd (omega (arith, is));
-  printing = λ is. (stopped.target_left, stopped.due);
+  printing = λ is. (stopped.target_left, stopped.due.0, stopped.due.1);
   not_yet = λ is. absurd (omega (arith, is));
-  known = inr (inr (omega arith, omega arith));
+  known = inr (inr (inr (inr (inl refl))));
 }
 
 -- its line

@@ -14,7 +14,7 @@ use Rattle.virt_top.specs.declared.stop.SourceFault.TheVariants.{TooLarge, NoSig
 use Rattle.virt_top.specs.declared.stop.Stop.{Stop}
 use Rattle.virt_top.specs.declared.stop.Stop.TheVariants.{NotYet, Source, NoPlan as Unplanned, SourceDevice, TargetDevice, Memory, Printing}
 use Rattle.virt_top.specs.Outcome.{CauseOfStop, IsBegun, IsCutShort, IsFinishedWork, IsPreparedWork, IsStop, IsSummary, LeavesTarget, PrintsUntil, IsUnready, IsEarlyStop, IsRefusedStop, Untouched}
-use Rattle.virt_top.specs.Verdict.{sectors_of, IsServedTable, IsJudged}
+use Rattle.virt_top.specs.Verdict.{sectors_of, HasWork, IsServedTable, IsJudged}
 
 -- a refusal of the work for a table that is served
 pub unready_of : (source target : List ℕ) (sectors : ℕ) (table : Table) (stop : Stop) → IsServedTable source table → sectors_of target ≡ sectors → IsRefusedStop sectors table stop → IsUnready source target stop
@@ -58,14 +58,14 @@ untouched_read name mode image mid new old asked log was same same_log =
     record { held = same ∙ was.held; log = subst Log_is (sym same_log) was.log }
 
 -- a stop after the first line is a device's or a sink's
-pub stop_of_begun : (source target : List ℕ) (stop : Stop) → IsBegun stop → IsStop source target stop
-stop_of_begun source target NotYet begun = absurd begun
-stop_of_begun source target (Source fault) begun = absurd begun
-stop_of_begun source target (Unplanned fault) begun = absurd begun
-stop_of_begun source target Memory begun = absurd begun
-stop_of_begun source target SourceDevice begun = tt
-stop_of_begun source target TargetDevice begun = tt
-stop_of_begun source target Printing begun = tt
+pub stop_of_begun : (source target : List ℕ) (stop : Stop) → HasWork source target → IsBegun stop → IsStop source target stop
+stop_of_begun source target NotYet work begun = absurd begun
+stop_of_begun source target (Source fault) work begun = absurd begun
+stop_of_begun source target (Unplanned fault) work begun = absurd begun
+stop_of_begun source target Memory work begun = absurd begun
+stop_of_begun source target SourceDevice work begun = tt
+stop_of_begun source target TargetDevice work begun = tt
+stop_of_begun source target Printing work begun = work
 
 -- what a stop before the first line leaves of the target
 pub left_early : (untouched same no_table done : Type 0) (source target : List ℕ) (stop : Stop) → IsEarlyStop source target stop → untouched → same

@@ -20,7 +20,7 @@ use Rattle.virt_top.specs.declared.stop.SourceFault.TheVariants.{Overlap as Shar
 use Rattle.virt_top.specs.declared.stop.Stop.{Stop}
 use Rattle.virt_top.specs.declared.stop.Stop.TheVariants.{NotYet, Source, NoPlan as Unplanned, SourceDevice, TargetDevice, Memory, Printing}
 use Rattle.virt_top.specs.Lines.{lines_of, last_line, stop_line, IsNotYetLine}
-use Rattle.virt_top.specs.Verdict.{sectors_of, IsWork, IsDue, IsUnserved, IsNoSource, HasNoPlanFor}
+use Rattle.virt_top.specs.Verdict.{sectors_of, HasWork, IsWork, IsDue, IsUnserved, IsNoSource, HasNoPlanFor}
 use Rattle.virt_top.specs.Words.{IsJob, word_at}
 
 -- a disk that was asked for at most once, by that name and mode, and not written, given up or created since
@@ -68,7 +68,7 @@ IsUnready source target Printing = ⊥
 -- why a job stops
 abbrev pub IsStop : List ℕ → List ℕ → Stop → Type 0
 IsStop source target TargetDevice = Unit {0}
-IsStop source target Printing = Unit {0}
+IsStop source target Printing = HasWork source target
 IsStop source target stop = IsUnready source target stop
 
 -- what a stop leaves of the target. Where nothing was written it is untouched. Where the source failed between the
@@ -200,6 +200,14 @@ pub record Stopped (words : List (List ℕ)) (source target target' : List ℕ) 
   pub due : IsDue words source target stop
   pub target_left : LeavesTarget untouched (target' ≡ target) (HasNoTable target') (IsFinishedWork source target target') stop
 
+-- the source, the target or memory failed
+abbrev pub IsFailed : ℕ → Type 0
+IsFailed status = (5 ≤ status) × (status ≤ 7)
+
+-- the statuses that there are
+abbrev pub IsKnown : ℕ → Type 0
+IsKnown status = (status ≡ 0) ⊎ (status ≡ 2) ⊎ (status ≡ 4) ⊎ IsFailed status ⊎ (status ≡ 8) ⊎ (status ≡ 9)
+
 -- what each status says of the words, of what the disks held and of what the target holds now; `untouched` says that the
 -- target is as it was and that nothing was written, given up or created
 pub record Outcome (words : List (List ℕ)) (source target target' : List ℕ) (untouched : Type 0) (status : ℕ) : Type 0 where
@@ -216,11 +224,19 @@ pub record Outcome (words : List (List ℕ)) (source target target' : List ℕ) 
   -- memory was refused
   pub memory : status ≡ 7 → untouched
   -- standard output failed
-  pub printing : status ≡ 8 → (untouched ⊎ IsFinishedWork source target target') × IsJob words
+  pub printing : status ≡ 8 → (untouched ⊎ IsFinishedWork source target target') × IsJob words × HasWork source target
   -- what is asked for isn't served yet
   pub not_yet : status ≡ 9 → untouched × ((IsJob words → ⊥) ⊎ (IsJob words × IsUnserved source))
   -- there is no other status
-  pub known : (status ≡ 0) ⊎ (status ≡ 2) ⊎ ((4 ≤ status) × (status ≤ 9))
+  pub known : IsKnown status
+
+-- what is due decides the status, but for faults of the disks and want of memory: where work is due it is 0 as long as
+-- nothing fails, and each refusal that is due comes
+pub record IsDecided (words : List (List ℕ)) (source target : List ℕ) (status : ℕ) : Type 0 where
+  pub work : IsJob words → HasWork source target → (status ≡ 0) ⊎ IsFailed status ⊎ (status ≡ 8)
+  pub no_source : IsJob words → (fault : SourceFault) → IsNoSource source fault → (status ≡ 2) ⊎ IsFailed status
+  pub no_plan : IsJob words → (fault : NoPlan) → HasNoPlanFor source target fault → (status ≡ 4) ⊎ IsFailed status
+  pub unserved : IsJob words → IsUnserved source → (status ≡ 9) ⊎ IsFailed status
 
 -- what a run printed
 abbrev pub Printed : Type 0 → List ℕ → List ℕ → List ℕ → List ℕ → List ℕ → ℕ → Type 0

@@ -72,6 +72,12 @@ pub record IsWork (source target : List ℕ) (table : Table) (work : Work) : Typ
   pub apart : LieApart table.slots
   pub ready : IsReady (sectors_of source) (sectors_of target) table work
 
+-- a disk for which there is work on that target
+pub record HasWork (source target : List ℕ) : Type 0 where
+  pub table : Table
+  pub work : Work
+  pub is_work : IsWork source target table work
+
 -- the refusals that are due by the words and what the disks hold; faults of devices and of memory are due by no words
 abbrev pub IsDue : List (List ℕ) → List ℕ → List ℕ → Stop → Type 0
 IsDue words source target NotYet = (IsJob words → ⊥) ⊎ (IsJob words × IsUnserved source)
@@ -80,7 +86,7 @@ IsDue words source target (Unplanned fault) = IsJob words × HasNoPlanFor source
 IsDue words source target SourceDevice = IsJob words
 IsDue words source target TargetDevice = IsJob words
 IsDue words source target Memory = Unit {0}
-IsDue words source target Printing = IsJob words
+IsDue words source target Printing = IsJob words × HasWork source target
 
 -- what reading the source may answer in place of a table
 abbrev pub IsJudged : List ℕ → Stop → Type 0

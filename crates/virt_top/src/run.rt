@@ -2,7 +2,7 @@
 ghost use Rattle.std.specs.Prelude.{◌≡◌, List, ℕ, IsTrue, string_bytes, map};
 ghost use Rattle.disk_base.specs.Faults.{Rose};
 ghost use Rattle.disk_base.specs.declared.device.Mode.TheVariants.{Read as ToRead, Change as ToChange};
-ghost use Rattle.virt_top.specs.Outcome.{AskedOnce, CauseOfStatus, Outcome, Printed, Reported, Untouched};
+ghost use Rattle.virt_top.specs.Outcome.{AskedOnce, CauseOfStatus, IsDecided, Outcome, Printed, Reported, Untouched};
 ghost use Rattle.virt_top.specs.Words.{IsJob, source_name, target_name};
 
 use crate::job::copy;
@@ -33,6 +33,7 @@ pub fn run<S: Disk, T: Disk, O: Sink, E: Sink>(
 
     // What the status says of the disks, of standard output and of standard error.
     ensures outcome { IsTrue S.tells → IsTrue T.tells → Outcome (map string_bytes words.now) (S.image source.old) (T.image target.old) (T.image target.new) (Untouched (target_name (map string_bytes words.now)) ToChange (T.image target.old) (T.image target.new) (T.log target.old) (T.log target.new)) result }
+    ensures decided { IsTrue S.tells → IsTrue T.tells → IsDecided (map string_bytes words.now) (S.image source.old) (T.image target.old) result }
     ensures printed { IsTrue S.tells → IsTrue T.tells → IsTrue O.tells_text → Printed (Untouched (target_name (map string_bytes words.now)) ToChange (T.image target.old) (T.image target.new) (T.log target.old) (T.log target.new)) (S.image source.old) (T.image target.old) (T.image target.new) (O.text out.old) (O.text out.new) result }
     ensures reported { IsTrue S.tells → IsTrue T.tells → IsTrue E.tells_text → Reported (map string_bytes words.now) (S.image source.old) (T.image target.old) (Rose (E.sink_faults err.old) (E.sink_faults err.new)) (E.text err.old) (E.text err.new) result }
 

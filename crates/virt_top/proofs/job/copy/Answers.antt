@@ -11,7 +11,8 @@ use Rattle.virt_top.proofs.job.copy.Goals as goal
 pub returns-in_err-write-clause-stop : goal.returns-in_err-write-clause-stop
 returns-in_err-write-clause-stop g c = λ s t.
     let p = err_from_is_err_and c.from_residual-in_err-write.result c.from_residual-in_err-write.ensures.1 in
-    rw (p.1, p.2) (stop_of_begun _ _ _ c.in_err-write.ensures.begun)
+    let prepared = c.in_ok-prepared.ensures.work s t in
+    rw (p.1, p.2) (stop_of_begun _ _ _ (record { table = prepared.table; work = _; is_work = prepared.is_work }) c.in_err-write.ensures.begun)
 
 pub returns-in_err-prepared-clause-left : goal.returns-in_err-prepared-clause-left
 returns-in_err-prepared-clause-left g c = λ s t.

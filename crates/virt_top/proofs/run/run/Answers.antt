@@ -8,6 +8,7 @@ use Rattle.virt_top.specs.Outcome.{IsFinishedWork, LeavesTarget, Untouched}
 use Rattle.resize_core.specs.Finished.{HasNoTable}
 use Rattle.virt_top.specs.Words.{IsJob, target_name}
 use Rattle.virt_top.proofs.RunLemmas.{never_asked, outcome_done, outcome_of, stopped_of, tells_of}
+use Rattle.virt_top.proofs.VerdictLemmas.{decided}
 use Rattle.virt_top.proofs.run.run.Goals as goal
 
 pub returns-then-not-is_job-clause-asked : goal.returns-then-not-is_job-clause-asked
@@ -17,6 +18,9 @@ pub returns-then-not-is_job-clause-outcome : goal.returns-then-not-is_job-clause
 returns-then-not-is_job-clause-outcome g c = λ s t.
     let no = λ (job : IsJob (map string_bytes c.args.words.now)). false≢true (sym c.if-not-is_job.true ∙ c.is_job.ensures.1 job) in
     rw c.status_of.ensures (outcome_of _ _ _ _ _ NotYet (record { due = inl no; target_left = record { held = refl; log = inl refl } }))
+
+pub returns-then-not-is_job-clause-decided : goal.returns-then-not-is_job-clause-decided
+returns-then-not-is_job-clause-decided g c = λ s t. decided _ _ _ _ _ _ (returns-then-not-is_job-clause-outcome g c s t)
 
 pub returns-then-not-is_job-clause-printed : goal.returns-then-not-is_job-clause-printed
 returns-then-not-is_job-clause-printed g c = λ s t o. inr (NotYet, c.status_of.ensures, refl)
@@ -29,6 +33,9 @@ returns-then-not-is_job-clause-reported g c = λ s t e.
 
 pub returns-in-Ok-clause-outcome : goal.returns-in-Ok-clause-outcome
 returns-in-Ok-clause-outcome g c = λ s t. outcome_done _ _ _ _ _ (c.is_job.ensures.0 c.if-not-is_job.false) (c.in-Ok.ensures.done s t)
+
+pub returns-in-Ok-clause-decided : goal.returns-in-Ok-clause-decided
+returns-in-Ok-clause-decided g c = λ s t. decided _ _ _ _ _ _ (returns-in-Ok-clause-outcome g c s t)
 
 pub returns-in-Ok-clause-printed : goal.returns-in-Ok-clause-printed
 returns-in-Ok-clause-printed g c = λ s t o. inl (refl, c.in-Ok.ensures.printed s t o)
@@ -47,6 +54,9 @@ returns-in-Err-clause-outcome g c = λ s t.
     rw c.status_of-in-Err.ensures
     (outcome_of _ _ _ _ _ c.report.result
     (stopped_of _ _ _ _ _ c.in-Err.stop _ job (c.in-Err.ensures.stop s t) (subst Left name (c.in-Err.ensures.left s t)) c.report.ensures.told))
+
+pub returns-in-Err-clause-decided : goal.returns-in-Err-clause-decided
+returns-in-Err-clause-decided g c = λ s t. decided _ _ _ _ _ _ (returns-in-Err-clause-outcome g c s t)
 
 pub returns-in-Err-clause-reported : goal.returns-in-Err-clause-reported
 returns-in-Err-clause-reported g c = λ s t e.
