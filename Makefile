@@ -5,7 +5,7 @@ PROGRAM = crates/virt_top/out/virt_top
 
 # Proves and builds the program.
 build:
-	@echo "Proving and building the program. The first time this takes about ten minutes, since every"
+	@echo "Proving and building the program. The first time this takes five to ten minutes, since every"
 	@echo "function is proved to meet its contract before it is compiled; build/build.log tells how far it is."
 	@mkdir -p build
 	@cd crates/virt_top && rt run -- virt-resize > ../../build/build.log 2>&1; test $$? -eq 9 || { tail -n 20 ../../build/build.log; exit 1; }
@@ -24,7 +24,7 @@ install: build
 	install -D -m 755 $(PROGRAM) $(DESTDIR)$(PREFIX)/libexec/virt_top
 	install -d $(DESTDIR)$(PREFIX)/bin
 	for command in virt-resize virt-sparsify; do \
-	    sed 's|^program=.*|program=$(PREFIX)/libexec/virt_top|' bin/$$command > $(DESTDIR)$(PREFIX)/bin/$$command && \
+	    sed -e 's|^program=.*|program=$(PREFIX)/libexec/virt_top|' -e '/^\[ -x/d' bin/$$command > $(DESTDIR)$(PREFIX)/bin/$$command && \
 	    chmod 755 $(DESTDIR)$(PREFIX)/bin/$$command || exit 1; \
 	done
 	install -D -m 644 man/virt-resize.1 $(DESTDIR)$(PREFIX)/share/man/man1/virt-resize.1

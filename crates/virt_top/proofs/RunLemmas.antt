@@ -7,8 +7,10 @@ use Rattle.resize_core.proofs.Copies.{same_asks_here}
 use Rattle.virt_top.specs.declared.stop.Stop.{Stop}
 use Rattle.virt_top.specs.declared.stop.Stop.TheVariants.{NotYet, Source, NoPlan as Unplanned, SourceDevice, TargetDevice, Memory, Printing}
 use Rattle.virt_top.specs.Lines.{stop_line}
-use Rattle.virt_top.specs.Outcome.{AskedOnce, IsFinishedWork, IsRefusal, IsStop, IsToldFor, LeavesTarget, Outcome, Stopped, Tells, TellsStop, status_of}
-use Rattle.virt_top.specs.Verdict.{IsDue}
+use Rattle.virt_top.specs.Outcome.{AskedOnce, IsFinishedWork, Outcome}
+use Rattle.virt_top.specs.Printing.{Tells, TellsStop}
+use Rattle.virt_top.specs.Stopping.{IsRefusal, IsStop, IsToldFor, LeavesTarget, Stopped}
+use Rattle.virt_top.specs.Verdict.{IsDue, status_of}
 use Rattle.virt_top.specs.Words.{IsJob}
 
 -- a disk that nobody asked for

@@ -8,7 +8,8 @@ use Rattle.resize_core.specs.Targets.{HasNoExtended}
 use Rattle.virt_top.specs.declared.stop.SourceFault.TheVariants.{TooLarge, NoSignature, Entry, Overlap}
 use Rattle.virt_top.specs.declared.stop.Stop.{Stop}
 use Rattle.virt_top.specs.declared.stop.Stop.TheVariants.{NotYet, Source, NoPlan as Unplanned, SourceDevice, TargetDevice, Memory, Printing}
-use Rattle.virt_top.specs.Verdict.{sectors_of, IsOwnTable, IsServedTable, IsNoSource, IsRuled, IsJudged, IsTableStop, CausedBySource, stop_of_fault}
+use Rattle.virt_top.specs.Stopping.{CausedBySource, IsJudged, IsTableStop, stop_of_fault}
+use Rattle.virt_top.specs.Verdict.{IsNoSource, IsOwnTable, IsRuled, IsServedTable, sectors_of}
 
 -- how many sectors a disk of whole sectors has
 pub sectors_is : (image : List ℕ) (n : ℕ) → length image ≡ 512 * n → sectors_of image ≡ n

@@ -17,7 +17,7 @@ use Rattle.resize_core.specs.Targets.{HasNoExtended, HasNoPlanFor as HasNoPlanOf
 use Rattle.virt_top.specs.declared.stop.SourceFault.{SourceFault}
 use Rattle.virt_top.specs.declared.stop.SourceFault.TheVariants.{TooLarge, NoSignature, Entry, Overlap}
 use Rattle.virt_top.specs.Outcome.{IsDecided, IsFailed, IsFinishedWork, IsKnown, Outcome}
-use Rattle.virt_top.specs.Verdict.{sectors_of, HasNoPlanFor, HasWork, IsNoSource, IsOtherTable, IsOwnTable, IsServedTable, IsUnserved}
+use Rattle.virt_top.specs.Verdict.{HasNoPlanFor, HasWork, IsNoSource, IsOtherTable, IsOwnTable, IsServedTable, IsUnserved, sectors_of}
 use Rattle.virt_top.specs.Words.{IsJob}
 
 -- two tables of one disk have the same slots

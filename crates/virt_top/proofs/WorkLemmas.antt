@@ -13,8 +13,10 @@ use Rattle.resize_core.specs.Targets.{IsRefusedFor}
 use Rattle.virt_top.specs.declared.stop.SourceFault.TheVariants.{TooLarge, NoSignature, Entry, Overlap}
 use Rattle.virt_top.specs.declared.stop.Stop.{Stop}
 use Rattle.virt_top.specs.declared.stop.Stop.TheVariants.{NotYet, Source, NoPlan as Unplanned, SourceDevice, TargetDevice, Memory, Printing}
-use Rattle.virt_top.specs.Outcome.{CauseOfStop, IsBegun, IsCutShort, IsFinishedWork, IsPreparedWork, IsStop, IsSummary, LeavesTarget, PrintsUntil, IsUnready, IsEarlyStop, IsRefusedStop, Untouched}
-use Rattle.virt_top.specs.Verdict.{sectors_of, HasWork, IsServedTable, IsJudged}
+use Rattle.virt_top.specs.Outcome.{IsFinishedWork, Untouched}
+use Rattle.virt_top.specs.Printing.{IsSummary, PrintsUntil}
+use Rattle.virt_top.specs.Stopping.{CauseOfStop, IsBegun, IsCutShort, IsEarlyStop, IsJudged, IsPreparedWork, IsRefusedStop, IsStop, IsUnready, LeavesTarget}
+use Rattle.virt_top.specs.Verdict.{HasWork, IsServedTable, sectors_of}
 
 -- a refusal of the work for a table that is served
 pub unready_of : (source target : List ℕ) (sectors : ℕ) (table : Table) (stop : Stop) → IsServedTable source table → sectors_of target ≡ sectors → IsRefusedStop sectors table stop → IsUnready source target stop

@@ -1,19 +1,18 @@
 -- What is due, by the words and by what the two disks hold.
-use Rattle.std.specs.Prelude.{◌≡◌, ℕ, ◌^◌, ◌/◌, ◌<◌, ◌≤◌, ◌⊎◌, List, length}
-use Rattle.disk_base.specs.Image.{sector}
-use Rattle.layout_plan.specs.declared.fault.NoPlan.{NoPlan}
-use Rattle.mbr_table.specs.declared.fault.MbrFault.{MbrFault}
-use Rattle.mbr_table.specs.declared.fault.MbrFault.TheVariants.{NoSignature as UnsignedDisk, Entry as BadEntry, Chain as BadChain, TooMany as TooManyRecords, Device as FailedDevice, Memory as RefusedMemory}
+use Rattle.std.specs.Prelude.{◌≡◌, ℕ, ◌≤◌, ◌⊎◌, List, ◌^◌, ◌/◌, ◌<◌, length}
 use Rattle.mbr_table.specs.Mbr.{Table, IsMbrTable, HasMbrFault, IsProtective}
-use Rattle.resize_core.specs.declared.refusal.MbrRefused.TheVariants.{NoPlan as RefusedPlan}
-use Rattle.resize_core.specs.Parts.{LieApart, IsOverlap}
+use Rattle.resize_core.specs.declared.refusal.MbrRefused.TheVariants.{Overlap, NoPlan as RefusedPlan}
+use Rattle.layout_plan.specs.declared.fault.NoPlan.{NoPlan}
+use Rattle.resize_core.specs.Parts.{IsOverlap, LieApart}
 use Rattle.resize_core.specs.Ready.{Work}
-use Rattle.resize_core.specs.Targets.{HasNoExtended, IsReady, IsRefusedFor}
+use Rattle.resize_core.specs.Targets.{IsRefusedFor, HasNoExtended, IsReady}
 use Rattle.virt_top.specs.declared.stop.SourceFault.{SourceFault}
 use Rattle.virt_top.specs.declared.stop.SourceFault.TheVariants.{TooLarge, NoSignature, Entry, Overlap}
 use Rattle.virt_top.specs.declared.stop.Stop.{Stop}
 use Rattle.virt_top.specs.declared.stop.Stop.TheVariants.{NotYet, Source, NoPlan as Unplanned, SourceDevice, TargetDevice, Memory, Printing}
 use Rattle.virt_top.specs.Words.{IsJob}
+use Rattle.disk_base.specs.Image.{sector}
+use Rattle.mbr_table.specs.declared.fault.MbrFault.TheVariants.{NoSignature as UnsignedDisk, Entry as BadEntry}
 
 -- how many sectors a disk has that holds this
 abbrev pub sectors_of : List ℕ → ℕ
@@ -88,37 +87,12 @@ IsDue words source target TargetDevice = IsJob words
 IsDue words source target Memory = Unit {0}
 IsDue words source target Printing = IsJob words × HasWork source target
 
--- what reading the source may answer in place of a table
-abbrev pub IsJudged : List ℕ → Stop → Type 0
-IsJudged image NotYet = IsUnserved image
-IsJudged image (Source fault) = IsNoSource image fault
-IsJudged image (Unplanned fault) = ⊥
-IsJudged image SourceDevice = Unit {0}
-IsJudged image TargetDevice = ⊥
-IsJudged image Memory = Unit {0}
-IsJudged image Printing = ⊥
-
--- a stop that the source's device caused
-abbrev pub CausedBySource : Type 0 → Stop → Type 0
-CausedBySource rose SourceDevice = rose
-CausedBySource rose TargetDevice = ⊥
-CausedBySource rose Printing = ⊥
-CausedBySource rose _ = Unit {0}
-
--- what a fault of the table stops with; a fault that no table has yet counts as what isn't served
-abbrev pub stop_of_fault : MbrFault → Stop
-stop_of_fault UnsignedDisk = Source NoSignature
-stop_of_fault (BadEntry number) = Source (Entry number)
-stop_of_fault (BadChain at) = NotYet
-stop_of_fault (TooManyRecords at) = NotYet
-stop_of_fault FailedDevice = SourceDevice
-stop_of_fault RefusedMemory = Memory
-
--- what reading the table alone may answer in its place
-abbrev pub IsTableStop : ℕ → List ℕ → Stop → Type 0
-IsTableStop sectors image (Source NoSignature) = HasMbrFault sectors image UnsignedDisk
-IsTableStop sectors image (Source (Entry number)) = HasMbrFault sectors image (BadEntry number)
-IsTableStop sectors image (Source fault) = ⊥
-IsTableStop sectors image SourceDevice = Unit {0}
-IsTableStop sectors image Memory = Unit {0}
-IsTableStop sectors image _ = ⊥
+-- the status of a stop
+abbrev pub status_of : Stop → ℕ
+status_of (Source fault) = 2
+status_of (Unplanned fault) = 4
+status_of SourceDevice = 5
+status_of TargetDevice = 6
+status_of Memory = 7
+status_of Printing = 8
+status_of NotYet = 9

@@ -8,9 +8,11 @@ ghost use Rattle.resize_core.specs.Targets.{HasNoExtended, IsReady};
 ghost use Rattle.disk_base.specs.Faults.{Rose};
 ghost use Rattle.disk_base.specs.Log.{Asked, IsWritable};
 ghost use Rattle.disk_base.specs.declared.device.Mode.TheVariants.{Read as ToRead, Change as ToChange};
-ghost use Rattle.virt_top.specs.Verdict.{CausedBySource, sectors_of};
+ghost use Rattle.virt_top.specs.Stopping.{CauseOfStop, CausedBySource, IsDeviceStop, IsEarlyStop, IsPreparedWork, IsRefusedStop, IsStop, IsUnready, LeavesTarget, Never, stop_of_refusal};
+ghost use Rattle.virt_top.specs.Verdict.{sectors_of};
 ghost use Rattle.virt_top.specs.Lines.{lines_of};
-ghost use Rattle.virt_top.specs.Outcome.{AskedOnce, IsFinishedWork, IsStop, LeavesTarget, PrintsAll, PrintsUntil, CauseOfStop, IsDeviceStop, IsEarlyStop, Never, Untouched, IsUnready, IsRefusedStop, IsPreparedWork, stop_of_refusal};
+ghost use Rattle.virt_top.specs.Outcome.{AskedOnce, IsFinishedWork, Untouched};
+ghost use Rattle.virt_top.specs.Printing.{PrintsAll, PrintsUntil};
 
 use crate::judging::judge;
 use crate::lines::summary;

@@ -6,7 +6,8 @@ ghost use Rattle.disk_base.specs.Image.{sector};
 ghost use Rattle.mbr_table.specs.Mbr.{IsProtective, IsSound, IsMbrTable};
 ghost use Rattle.mbr_table.specs.Slot.{holds_extended};
 ghost use Rattle.resize_core.specs.Targets.{HasNoExtended};
-ghost use Rattle.virt_top.specs.Verdict.{IsServedTable, IsJudged, CausedBySource, IsRuled, IsTableStop, stop_of_fault};
+ghost use Rattle.virt_top.specs.Stopping.{CausedBySource, IsJudged, IsTableStop, stop_of_fault};
+ghost use Rattle.virt_top.specs.Verdict.{IsRuled, IsServedTable};
 
 use crate::stop::{SourceFault, Stop};
 use disk_base::{Blocks, SECTOR};

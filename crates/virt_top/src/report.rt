@@ -2,7 +2,9 @@
 ghost use Rattle.std.specs.Prelude.{◌≡◌, ◌≢◌, ◌≤◌, IsTrue, IfOk, string_bytes, codes, map, List, ℕ};
 ghost use Rattle.disk_base.specs.Faults.{Rose};
 ghost use Rattle.virt_top.specs.Lines.{stop_line, IsNotYetLine};
-ghost use Rattle.virt_top.specs.Outcome.{Tells, IsRefusal, IsToldFor, status_of};
+ghost use Rattle.virt_top.specs.Printing.{Tells};
+ghost use Rattle.virt_top.specs.Stopping.{IsRefusal, IsToldFor};
+ghost use Rattle.virt_top.specs.Verdict.{status_of};
 ghost use Rattle.virt_top.specs.Words.{word_at};
 
 use crate::lines::{no_plan_line, source_fault_line};

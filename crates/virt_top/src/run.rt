@@ -2,7 +2,8 @@
 ghost use Rattle.std.specs.Prelude.{◌≡◌, List, ℕ, IsTrue, string_bytes, map};
 ghost use Rattle.disk_base.specs.Faults.{Rose};
 ghost use Rattle.disk_base.specs.declared.device.Mode.TheVariants.{Read as ToRead, Change as ToChange};
-ghost use Rattle.virt_top.specs.Outcome.{AskedOnce, CauseOfStatus, IsDecided, Outcome, Printed, Reported, Untouched};
+ghost use Rattle.virt_top.specs.Outcome.{AskedOnce, CauseOfStatus, IsDecided, Outcome, Untouched};
+ghost use Rattle.virt_top.specs.Printing.{Printed, Reported};
 ghost use Rattle.virt_top.specs.Words.{IsJob, source_name, target_name};
 
 use crate::job::copy;

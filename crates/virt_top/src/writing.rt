@@ -6,7 +6,8 @@ ghost use Rattle.resize_core.specs.Finished.{HasNoTable};
 ghost use Rattle.resize_core.specs.Ready.{IsDone};
 ghost use Rattle.resize_core.specs.Transfers.{SameAsks};
 ghost use Rattle.virt_top.specs.Lines.{last_line};
-ghost use Rattle.virt_top.specs.Outcome.{CauseOfStop, GainsPrefix, IsCutShort, IsBegun, IsDeviceStop, IsSame, LeavesTarget, Never, stop_of_device};
+ghost use Rattle.virt_top.specs.Printing.{GainsPrefix};
+ghost use Rattle.virt_top.specs.Stopping.{CauseOfStop, IsBegun, IsCutShort, IsDeviceStop, IsSame, LeavesTarget, Never, stop_of_device};
 
 use crate::stop::Stop;
 use disk_base::{Blocks, DeviceFault, Disk, Sink};

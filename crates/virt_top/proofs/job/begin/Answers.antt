@@ -1,7 +1,7 @@
 -- The attached disks hold what they held, so what is due is due of the disks at the entry.
 use Rattle.std.proofs.lemmas.Result.{err_from_is_err_and}
 use Rattle.std.proofs.Common.{◌≡◌, ℕ, List, sym, subst, ap, ◌∙◌, string_bytes}
-use Rattle.virt_top.specs.Outcome.{IsUnready, IsPreparedWork}
+use Rattle.virt_top.specs.Stopping.{IsPreparedWork, IsUnready}
 use Rattle.virt_top.specs.Verdict.{sectors_of}
 use Rattle.virt_top.proofs.SourceLemmas.{sectors_is}
 use Rattle.virt_top.proofs.WorkLemmas.{early_of, untouched_read}

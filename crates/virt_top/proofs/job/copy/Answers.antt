@@ -3,7 +3,7 @@ use Rattle.std.proofs.lemmas.Result.{err_from_is_err_and}
 use Rattle.std.proofs.Common.{ℕ, List, ◌++◌, subst, ap, ◌∙◌, string_bytes}
 use Rattle.disk_base.specs.Faults.{Rose}
 use Rattle.virt_top.specs.Lines.{last_line}
-use Rattle.virt_top.specs.Outcome.{IsCutShort, IsSame}
+use Rattle.virt_top.specs.Stopping.{IsCutShort, IsSame}
 use Rattle.resize_core.specs.Ready.{IsDone}
 use Rattle.virt_top.proofs.WorkLemmas.{cause_since, finished_of, left_as, left_early, stop_of_begun, summary_of, until_of, untouched_read}
 use Rattle.virt_top.proofs.job.copy.Goals as goal

@@ -4,7 +4,8 @@ use Rattle.std.proofs.Common.{◌≡◌, inl, inr, ℕ, List, map, string_bytes,
 use Rattle.std.proofs.lemmas.List.{get_or-map, length-map}
 use Rattle.disk_base.specs.declared.device.Mode.TheVariants.{Change}
 use Rattle.virt_top.specs.declared.stop.Stop.TheVariants.{NotYet}
-use Rattle.virt_top.specs.Outcome.{IsFinishedWork, LeavesTarget, Untouched}
+use Rattle.virt_top.specs.Outcome.{IsFinishedWork, Untouched}
+use Rattle.virt_top.specs.Stopping.{LeavesTarget}
 use Rattle.resize_core.specs.Finished.{HasNoTable}
 use Rattle.virt_top.specs.Words.{IsJob, target_name}
 use Rattle.virt_top.proofs.RunLemmas.{never_asked, outcome_done, outcome_of, stopped_of, tells_of}
