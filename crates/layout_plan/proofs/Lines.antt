@@ -100,7 +100,7 @@ pub record LaidSoFar (floor align begin : ℕ) (counts : List ℕ) (n : ℕ) (st
   pub following : (k : ℕ) → k + 1 < n → IsNext align (end_of counts starts k) (slice_index starts (k + 1))
   pub behind : 0 < n → last ≡ end_of counts starts (n - 1)
   pub none : n ≡ 0 → last ≡ floor
-  pub bound : last < 2 ^ 33 + n * 2 ^ 33
+  pub bound : last < 2 ^ 33 + n * (10 ^ 17 + 2 ^ 33)
 
 at_end : (starts : List ℕ) (start n : ℕ) → length starts ≡ n → slice_index (starts ++ start ∷ []) n ≡ start
 at_end starts start n long = grind (arith, common_steps)
@@ -112,7 +112,7 @@ below_end starts start n k long within = grind (arith, common_steps)
 pub laid_more : (floor align begin : ℕ) (counts : List ℕ) (n : ℕ) (starts : List ℕ) (last start count : ℕ)
     → LaidSoFar floor align begin counts n starts last
     → (n ≡ 0 → start ≡ begin) → (0 < n → IsNext align last start)
-    → count ≡ slice_index counts n → count ≤ 2 ^ 31 → align ≤ 1048576 → begin < 2 ^ 32
+    → count ≡ slice_index counts n → count ≤ 10 ^ 17 → align ≤ 1048576 → begin < 2 ^ 32
     → LaidSoFar floor align begin counts (n + 1) (starts ++ start ∷ []) (start + count)
 laid_more floor align begin counts n starts last start count done at_first at_next is_count small_count small_align small_begin = record {
   as_many = omega (arith, length-append starts (start ∷ []));

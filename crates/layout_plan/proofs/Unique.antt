@@ -234,14 +234,14 @@ module _ (kind : Kind) (parts : List Part) (wishes : List Wish) (layout : Layout
 
   not_a_wish : (one : Plan) (fault : NoPlan) → IsPlan kind parts wishes layout sectors one → IsWishFault kind parts wishes sectors fault → ⊥
   not_a_wish one fault x y =
-      let fine = x.due.asked y.place any_wish y.within in
-      let wrong = y.here any_wish in
+      let fine = x.due.asked y.first.place any_wish y.first.within in
+      let wrong = y.first.here any_wish in
       cc (fine, wrong)
 
   not_a_length : (one : Plan) (fault : NoPlan) → IsPlan kind parts wishes layout sectors one → IsLengthFault kind parts wishes sectors fault → ⊥
   not_a_length one fault x y =
-      let fine = x.due.lengths y.place any_part y.within in
-      let wrong = y.here any_part in
+      let fine = x.due.lengths y.first.place any_part y.first.within in
+      let wrong = y.first.here any_part in
       cc (fine, wrong)
 
   not_too_long : (one : Plan) (last limit : ℕ) → IsPlan kind parts wishes layout sectors one → IsTooLong kind parts wishes layout sectors last limit → ⊥

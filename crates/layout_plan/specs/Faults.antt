@@ -38,25 +38,37 @@ length_fault wishes part =
     else (if would_cut (wish_of wishes part.number) part.content (wanted wishes part)
     then Some (WouldCut part.number part.content (wanted wishes part)) else None))
 
+-- every wish can be, each judged behind those before it
+abbrev pub AreAllowed : List Part → List Wish → Type 0
+AreAllowed parts wishes = (k : ℕ) (d : Wish) → k < length wishes → wish_fault parts (take k wishes) (slice_index_or wishes k d) ≡ None
+
 -- no rule that comes before the layout refuses
 pub record IsDue (kind : Kind) (parts : List Part) (wishes : List Wish) (sectors : ℕ) : Type 0 where
   pub room : HasRoom kind sectors
-  pub asked : (k : ℕ) (d : Wish) → k < length wishes → wish_fault parts (take k wishes) (slice_index_or wishes k d) ≡ None
+  pub asked : AreAllowed parts wishes
   pub lengths : All (λ (part : Part). length_fault wishes part ≡ None) parts
 
 -- the first wish that can't be, in the order of the words
-pub record IsWishFault (kind : Kind) (parts : List Part) (wishes : List Wish) (sectors : ℕ) (fault : NoPlan) : Type 0 where
-  pub room : HasRoom kind sectors
+pub record IsFirstBadWish (parts : List Part) (wishes : List Wish) (fault : NoPlan) : Type 0 where
   pub place : ℕ
   pub within : place < length wishes
   pub here : (d : Wish) → wish_fault parts (take place wishes) (slice_index_or wishes place d) ≡ Some fault
   pub earlier : (k : ℕ) (d : Wish) → k < place → wish_fault parts (take k wishes) (slice_index_or wishes k d) ≡ None
 
 -- the first length that can't be, by rising number
-pub record IsLengthFault (kind : Kind) (parts : List Part) (wishes : List Wish) (sectors : ℕ) (fault : NoPlan) : Type 0 where
-  pub room : HasRoom kind sectors
-  pub asked : (k : ℕ) (d : Wish) → k < length wishes → wish_fault parts (take k wishes) (slice_index_or wishes k d) ≡ None
+pub record IsFirstBadLength (wishes : List Wish) (parts : List Part) (fault : NoPlan) : Type 0 where
   pub place : ℕ
   pub within : place < length parts
   pub here : (d : Part) → length_fault wishes (slice_index_or parts place d) ≡ Some fault
   pub earlier : (k : ℕ) (d : Part) → k < place → length_fault wishes (slice_index_or parts k d) ≡ None
+
+-- a wish refuses the plan: none that comes before it, and no size of the target, does
+pub record IsWishFault (kind : Kind) (parts : List Part) (wishes : List Wish) (sectors : ℕ) (fault : NoPlan) : Type 0 where
+  pub room : HasRoom kind sectors
+  pub first : IsFirstBadWish parts wishes fault
+
+-- a length refuses the plan: no wish, no size of the target and no length before it does
+pub record IsLengthFault (kind : Kind) (parts : List Part) (wishes : List Wish) (sectors : ℕ) (fault : NoPlan) : Type 0 where
+  pub room : HasRoom kind sectors
+  pub asked : AreAllowed parts wishes
+  pub first : IsFirstBadLength wishes parts fault

@@ -1,5 +1,5 @@
 -- What the wishes make of each part of the source.
-use Rattle.std.specs.Prelude.{ℕ, ◌-◌, Bool, true, false, not, ◌&&◌, nat_lt, ◌==◌, if◌then◌else◌, List, [], ◌∷◌, filter, count_by, Option, Some, None}
+use Rattle.std.specs.Prelude.{ℕ, ◌-◌, Bool, true, false, not, ◌&&◌, nat_lt, ◌==◌, if◌then◌else◌, List, filter, count_by, find, Option, Some, None}
 use Rattle.layout_plan.specs.declared.part.Part.{Part}
 use Rattle.layout_plan.specs.declared.part.Fate.{Fate}
 use Rattle.layout_plan.specs.declared.part.Fate.TheVariants.{Kept, Resized, Ignored}
@@ -9,9 +9,12 @@ use Rattle.layout_plan.specs.declared.wish.What.TheVariants.{Resize, Force, Dele
 use Rattle.layout_plan.specs.Size.{wanted_sectors}
 
 -- the first wish that names the part of that number
+abbrev pub what_of : Option Wish → Option What
+what_of None = None
+what_of (Some wish) = Some wish.what
+
 abbrev pub wish_of : List Wish → ℕ → Option What
-wish_of [] number = None
-wish_of (wish ∷ wishes) number = if wish.part == number then Some wish.what else wish_of wishes number
+wish_of wishes number = what_of (find (λ (wish : Wish). wish.part == number) wishes)
 
 -- the length that a wish asks for, where there were old sectors
 abbrev pub asked_length : Option What → ℕ → ℕ

@@ -1,15 +1,16 @@
 //! The order in which parts are laid out, and where each one comes to stand.
-ghost use Rattle.std.specs.Prelude.{◌≡◌, ℕ, ◌+◌, ◌*◌, ◌^◌, ◌<◌, ◌≤◌, ◌≢◌, [], length, map, All, AllPairs, IsPermutation, IfOk};
+ghost use Rattle.std.specs.Prelude.{◌≡◌, ℕ, ◌+◌, ◌-◌, ◌*◌, ◌^◌, ◌<◌, ◌≤◌, ◌≢◌, length, map, All, AllPairs, IsPermutation, IfOk};
 ghost use Rattle.layout_plan.specs.declared.part.Part.{Part};
 ghost use Rattle.layout_plan.specs.Layouts.{IsLayout, last_end};
 ghost use Rattle.layout_plan.specs.Plans.{Begins, IsLaid, IsLeastStart};
 ghost use Rattle.layout_plan.specs.Tables.{floor_of};
 ghost use Rattle.layout_plan.specs.Served.{IsServed};
-ghost use Rattle.layout_plan.specs.Wishes.{wanted};
+ghost use Rattle.layout_plan.specs.Wishes.{remaining, wanted};
 
 use crate::alignment::next_multiple;
 use crate::part::{Kind, Part};
-use crate::wish::Layout;
+use crate::sizing::lengths_of;
+use crate::wish::{Layout, Wish};
 use std::alloc::{AllocError, Global};
 
 /// The first sector that a partition may take.
@@ -78,11 +79,11 @@ pub fn lay_out(
     requires small { align ≤ 1048576 }
     requires floor { floor < 2 ^ 32 }
     requires begin { begin < 2 ^ 32 }
-    requires counts { All (λ (count : ℕ). count ≤ 2 ^ 31) counts.now }
+    requires counts { All (λ (count : ℕ). count ≤ 10 ^ 17) counts.now }
     requires few { length counts.now ≤ 128 }
     ensures starts { IfOk result (λ line. IsLayout align begin counts.now line.starts.items) }
     ensures end { IfOk result (λ line. line.end ≡ last_end floor counts.now line.starts.items) }
-    ensures bound { IfOk result (λ line. line.end < 2 ^ 63) }
+    ensures bound { IfOk result (λ line. line.end < 2 ^ 64 - 2 ^ 32) }
 {
     let mut starts = Vec::new(alloc);
     let mut end = floor;
@@ -98,13 +99,6 @@ pub fn lay_out(
     Ok(Line { starts, end })
 }
 
-/// The lengths of the parts.
-fn counts_of(alloc: Global, laid: &[Part]) -> Result<Vec<u64>, AllocError>
-    ensures { IfOk result (λ counts. counts.items ≡ map (λ (part : Part). part.count) laid.now) }
-{
-    laid.iter().map(|part| part.count).collect(alloc)
-}
-
 /// The parts by rising source start, where each one comes to stand, and where the last one ends.
 #[derive(Debug, Drop)]
 pub struct Laid {
@@ -113,18 +107,26 @@ pub struct Laid {
     pub end: u64,
 }
 
-/// Lays the parts out.
-pub fn lay(alloc: Global, kind: Kind, parts: &[Part], layout: &Layout) -> Result<Laid, AllocError>
-    requires { IsServed kind parts.now [] layout.now }
-    ensures laid { IfOk result (λ laid. IsLaid kind parts.now [] layout.now laid.parts.items laid.starts.items) }
-    ensures end { IfOk result (λ laid. laid.end ≡ last_end (floor_of kind) (map (wanted []) laid.parts.items) laid.starts.items) }
-    ensures bound { IfOk result (λ laid. laid.end < 2 ^ 63) }
+/// Lays the parts that remain out, with the lengths that they shall have.
+pub fn lay(
+    alloc: Global,
+    kind: Kind,
+    parts: &[Part],
+    rest: &[Part],
+    wishes: &[Wish],
+    layout: &Layout,
+) -> Result<Laid, AllocError>
+    requires served { IsServed kind parts.now wishes.now layout.now }
+    requires rest { rest.now ≡ remaining wishes.now parts.now }
+    ensures laid { IfOk result (λ laid. IsLaid kind parts.now wishes.now layout.now laid.parts.items laid.starts.items) }
+    ensures end { IfOk result (λ laid. laid.end ≡ last_end (floor_of kind) (map (wanted wishes.now) laid.parts.items) laid.starts.items) }
+    ensures bound { IfOk result (λ laid. laid.end < 2 ^ 64 - 2 ^ 32) }
 {
     let align = layout.align;
-    let laid = by_start(alloc, parts)?;
-    let counts = counts_of(alloc, &laid)?;
+    let laid = by_start(alloc, rest)?;
+    let lengths = lengths_of(alloc, wishes, &laid)?;
     let first = begin(kind, parts, layout);
-    let line = lay_out(alloc, floor(kind), first, u64::from(align), &counts)?;
+    let line = lay_out(alloc, floor(kind), first, u64::from(align), &lengths)?;
     let Line { starts, end } = line;
     Ok(Laid {
         parts: laid,

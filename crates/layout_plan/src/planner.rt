@@ -1,5 +1,5 @@
 //! The plan of a job.
-ghost use Rattle.std.specs.Prelude.{◌≡◌, ℕ, ◌≤◌, ◌-◌, All, AllPairs, IfOk, IfErr, IfSome};
+ghost use Rattle.std.specs.Prelude.{◌≡◌, ℕ, [], ◌≤◌, ◌-◌, All, AllPairs, IfOk, IfErr, IfSome};
 ghost use Rattle.layout_plan.specs.Plans.{Apart, IsBehind, IsInside, IsPlan, IsSameOrder};
 ghost use Rattle.layout_plan.specs.Refusals.{HasNoPlan, OnePlan};
 ghost use Rattle.layout_plan.specs.Served.{IsServed};
@@ -11,7 +11,9 @@ use crate::laying::lay;
 use crate::part::{Kind, Part};
 use crate::places::place;
 use crate::planned::Planned;
+use crate::sizing::remaining;
 use crate::wish::{Layout, Wish};
+use crate::wishing::{judge_lengths, judge_wishes};
 use std::alloc::Global;
 
 /// The most sectors that a disk may have.
@@ -40,10 +42,17 @@ fn limit(kind: Kind, sectors: u64) -> u64
 
 /// Where the parts, which stand by rising number, come to stand on a target of `sectors` sectors.
 ///
-/// They are laid out by rising start, the first one at the least start of all, or at the first multiple of the
-/// alignment where the layout asks for that, and each later one at the next multiple behind the one before it.
-/// `TooSmall` is a target with no room for a table, `TooLarge` one of more than 2^31 sectors, and `DoesNotFit`
-/// says where the last part would end. `Memory` may come at any call.
+/// Each part that isn't deleted gets the length that is wished, or keeps its own. They are laid out by rising
+/// start, the first one at the least start of all, or at the first multiple of the alignment where the layout
+/// asks for that, and each later one at the next multiple behind the one before it. Their numbers fall by the
+/// deleted parts of lower numbers.
+///
+/// # Errors
+///
+/// `TooSmall` is a target with no room for a table, `TooLarge` one of more than 2^31 sectors. `NoSuchPart` and
+/// `NamedTwice` are of the first wish that names no part or one that was named before, `Empty` and `WouldCut`
+/// of the first part whose length would be 0, or less than its content without force. `DoesNotFit` says where
+/// the last part would end. `Memory` may come at any call.
 pub fn plan(
     alloc: Global,
     kind: Kind,
@@ -57,7 +66,7 @@ pub fn plan(
     ensures none { IfErr result (λ fault. HasNoPlan kind parts.now wishes.now layout.now sectors fault) }
 
     // The partitions lie apart, behind the table and before the limit.
-    ensures same_order { IfOk result (λ planned. IsSameOrder parts.now planned.parts) }
+    ensures same_order { wishes.now ≡ [] → IfOk result (λ planned. IsSameOrder parts.now planned.parts) }
     ensures apart { IfOk result (λ planned. AllPairs Apart planned.parts) }
     ensures inside { IfOk result (λ planned. All (IsInside planned.limit) planned.parts) }
     ensures behind { IfOk result (λ planned. IfSome planned.extra (IsBehind planned.parts planned.limit)) }
@@ -70,14 +79,17 @@ pub fn plan(
         return Err(NoPlan::TooLarge { sectors });
     }
     let limit = limit(kind, sectors);
-    let laid = lay(alloc, kind, parts, layout)?;
+    judge_wishes(parts, wishes)?;
+    judge_lengths(wishes, parts)?;
+    let rest = remaining(alloc, wishes, parts)?;
+    let laid = lay(alloc, kind, parts, &rest, wishes, layout)?;
     if limit < laid.end {
         return Err(NoPlan::DoesNotFit {
             end: laid.end,
             limit,
         });
     }
-    let placed = place(alloc, parts, &laid.parts, &laid.starts)?;
+    let placed = place(alloc, wishes, parts, &rest, &laid)?;
     let extra = extra_part(kind, layout, &placed, laid.end, limit);
     Ok(Planned::new(placed, extra, limit))
 }

@@ -1,8 +1,12 @@
 //! Plans of small tables.
-ghost use Rattle.std.specs.Prelude.{◌≡◌};
+ghost use Rattle.std.specs.Prelude.{◌≡◌, true};
 ghost use Rattle.layout_plan.specs.declared.part.Role.TheVariants.{Slot};
+ghost use Rattle.layout_plan.specs.Served.{is_sized};
 
-use crate::{Fate, Kind, Layout, NoPlan, Part, Placed, Role, one_layout, one_plan, plan};
+use crate::{
+    Fate, Kind, Layout, NoPlan, Part, Placed, Role, Size, What, Wish, one_layout, one_plan, plan,
+};
+use std::alloc::{AllocError, Global};
 use std::test::Fail;
 
 /// A layout by 64 KiB that makes a partition of what is left over.
@@ -124,5 +128,142 @@ fn makes_no_fifth_slot(rt: HostRuntime) -> Result<(), Fail> {
     let planned = plan(rt.alloc(), Kind::Mbr, &parts, &[], &LAYOUT, 65536)?;
     assert_eq!(rt; planned.parts().len(), 4);
     assert_eq!(rt; planned.extra(), None);
+    Ok(())
+}
+
+/// What is made of a lone slot that something is wished of, or why nothing is.
+fn wished(
+    alloc: Global,
+    what: What,
+    sectors: u64,
+) -> Result<(Option<Placed>, Option<NoPlan>), AllocError>
+    requires { is_sized what ≡ true }
+{
+    let parts = [slot(1, 2048, 20480)];
+    let wish = Wish {
+        place: 2,
+        part: 1,
+        what,
+    };
+    match plan(alloc, Kind::Mbr, &parts, &[wish], &LAYOUT, sectors) {
+        Ok(planned) => Ok((planned.parts().first().copied(), None)),
+        Err(fault) => Ok((None, Some(fault))),
+    }
+}
+
+/// A lone slot of another length.
+fn resized(count: u64) -> (Option<Placed>, Option<NoPlan>) {
+    let placed = Placed {
+        fate: Fate::Resized,
+        ..kept(1, 1, 2048, count)
+    };
+    (Some(placed), None)
+}
+
+#[test]
+fn gives_the_length_that_is_asked_for(rt: HostRuntime) -> Result<(), Fail> {
+    let alloc = rt.alloc();
+    let more = wished(alloc, What::Resize(Size::MorePercent(20)), 65536)?;
+    assert_eq!(rt; more, resized(24576));
+    let share = wished(alloc, What::Resize(Size::Percent(150)), 65536)?;
+    assert_eq!(rt; share, resized(30720));
+    let bytes = wished(alloc, What::Resize(Size::Bytes(10485761)), 65536)?;
+    assert_eq!(rt; bytes, resized(20481));
+    let one = wished(alloc, What::Resize(Size::More(1)), 65536)?;
+    assert_eq!(rt; one, resized(20481));
+    let cut = wished(alloc, What::Force(Size::Bytes(10485248)), 22527)?;
+    assert_eq!(rt; cut, resized(20479));
+    let less = wished(alloc, What::Force(Size::Less(513)), 65536)?;
+    assert_eq!(rt; less, resized(20479));
+    let least = wished(alloc, What::Force(Size::LessPercent(99)), 65536)?;
+    assert_eq!(rt; least, resized(205));
+    Ok(())
+}
+
+#[test]
+fn refuses_lengths_that_can_not_be(rt: HostRuntime) -> Result<(), Fail> {
+    let alloc = rt.alloc();
+    let cut = wished(alloc, What::Resize(Size::Bytes(10485248)), 65536)?;
+    let would_cut = NoPlan::WouldCut {
+        part: 1,
+        content: 20480,
+        wanted: 20479,
+    };
+    assert_eq!(rt; cut, (None, Some(would_cut)));
+    let none = wished(alloc, What::Force(Size::LessPercent(100)), 65536)?;
+    assert_eq!(rt; none, (None, Some(NoPlan::Empty { part: 1 })));
+    let long = wished(alloc, What::Resize(Size::MorePercent(20)), 26623)?;
+    let too_long = NoPlan::DoesNotFit {
+        end: 26624,
+        limit: 26623,
+    };
+    assert_eq!(rt; long, (None, Some(too_long)));
+    Ok(())
+}
+
+#[test]
+fn leaves_out_what_is_deleted(rt: HostRuntime) -> Result<(), Fail> {
+    let parts = [slot(1, 2048, 100), slot(2, 4096, 100), slot(4, 8192, 100)];
+    let wishes = [
+        Wish {
+            place: 2,
+            part: 1,
+            what: What::Delete,
+        },
+        Wish {
+            place: 4,
+            part: 4,
+            what: What::Ignore,
+        },
+    ];
+    let planned = plan(rt.alloc(), Kind::Mbr, &parts, &wishes, &LAYOUT, 65536)?;
+    let ignored = Placed {
+        fate: Fate::Ignored,
+        ..kept(4, 3, 2176, 100)
+    };
+    assert_eq!(rt;
+        planned.parts(),
+        [kept(2, 1, 2048, 100), ignored].as_slice()
+    );
+    assert_eq!(rt; planned.extra(), Some(kept(0, 2, 2304, 63232)));
+    Ok(())
+}
+
+#[test]
+fn refuses_the_first_wish_that_can_not_be(rt: HostRuntime) -> Result<(), Fail> {
+    let parts = [slot(1, 2048, 20480)];
+    let first = Wish {
+        place: 2,
+        part: 1,
+        what: What::Resize(Size::MorePercent(20)),
+    };
+    let second = Wish {
+        place: 4,
+        part: 1,
+        what: What::Resize(Size::Bytes(1073741824)),
+    };
+    let missing = Wish {
+        place: 6,
+        part: 9,
+        what: What::Delete,
+    };
+    let twice = plan(
+        rt.alloc(),
+        Kind::Mbr,
+        &parts,
+        &[first, second, missing],
+        &LAYOUT,
+        65536,
+    );
+    assert_eq!(rt; twice.err(), Some(NoPlan::NamedTwice { place: 4 }));
+    let unknown = plan(
+        rt.alloc(),
+        Kind::Mbr,
+        &parts,
+        &[missing, first, second],
+        &LAYOUT,
+        65536,
+    );
+    assert_eq!(rt; unknown.err(), Some(NoPlan::NoSuchPart { place: 6 }));
     Ok(())
 }

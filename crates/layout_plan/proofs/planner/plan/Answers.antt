@@ -1,41 +1,83 @@
-use Rattle.std.proofs.Common.{◌≡◌, ◌≤◌, ◌∙◌, sym, map, arith}
-use Rattle.layout_plan.specs.declared.part.Part.{Part}
+-- What is wrong with wishes or lengths is told; else what is placed is the plan.
+use Rattle.std.proofs.Common.{◌≡◌, ◌≤◌, ◌∙◌, List, subst, sym, map, arith}
+use Rattle.std.proofs.lemmas.Result.{err_from_is_err_and}
+use Rattle.layout_plan.specs.declared.wish.Wish.{Wish}
+use Rattle.layout_plan.specs.Faults.{IsDue}
 use Rattle.layout_plan.specs.Layouts.{last_end}
+use Rattle.layout_plan.specs.Plans.{ArePlaced}
 use Rattle.layout_plan.specs.Tables.{HasRoom, floor_of, limit_of}
-use Rattle.layout_plan.proofs.Sound.{without_wishes, all_there, limit_inside, in_same_order, all_apart, all_inside, extra_behind, is_plan}
-use Rattle.layout_plan.proofs.Slots.{all_remain}
+use Rattle.layout_plan.specs.Wishes.{remaining, wanted}
+use Rattle.layout_plan.proofs.Refused.{refused_length, refused_wish}
+use Rattle.layout_plan.proofs.Slots.{few_parts, served_remain}
+use Rattle.layout_plan.proofs.Sound.{all_there, limit_inside, in_same_order, all_apart, all_inside, extra_behind, are_placed}
 use Rattle.layout_plan.proofs.planner.plan.Goals as goal
+
+pub returns-in_err-judge_wishes-clause-none : goal.returns-in_err-judge_wishes-clause-none
+returns-in_err-judge_wishes-clause-none c =
+    let p = err_from_is_err_and c.from_residual.result c.from_residual.ensures.1 in
+    let room : HasRoom c.args.kind c.args.sectors = record { enough = omega (arith, c.least_sectors.ensures); not_too_many = omega arith } in
+    rw (p.1, p.2)
+    (refused_wish c.args.kind c.args.parts.now c.args.wishes.now c.args.layout.now c.args.sectors room c.in_err-judge_wishes.field-0.0 c.in_err-judge_wishes.ensures.fault)
+
+pub returns-in_err-judge_lengths-clause-none : goal.returns-in_err-judge_lengths-clause-none
+returns-in_err-judge_lengths-clause-none c =
+    let p = err_from_is_err_and c.from_residual-in_err-judge_lengths.result c.from_residual-in_err-judge_lengths.ensures.1 in
+    let room : HasRoom c.args.kind c.args.sectors = record { enough = omega (arith, c.least_sectors.ensures); not_too_many = omega arith } in
+    rw (p.1, p.2)
+    (refused_length c.args.kind c.args.parts.now c.args.wishes.now c.args.layout.now c.args.sectors room c.in_ok-judge_wishes.ensures.fine
+    c.in_err-judge_lengths.field-0.0 c.in_err-judge_lengths.ensures.fault)
+
+pub place-requires-clause-small : goal.place-requires-clause-small
+place-requires-clause-small c =
+    rw (c.deref-2.ensures.value, c.in_ok-rest.ensures)
+    (λ k d within. let one = served_remain c.args.wishes.now c.args.parts.now c.requires.served.each k d within in omega (arith, one.named))
+
+pub place-requires-clause-few : goal.place-requires-clause-few
+place-requires-clause-few c = omega (arith, few_parts c.args.parts.now c.requires.served.each c.requires.served.by_number)
 
 pub place-requires-clause-there : goal.place-requires-clause-there
 place-requires-clause-there c =
-    rw c.deref.ensures.value
-    (all_there c.args.parts.now c.in_ok-laid.laid.parts.items (rw (all_remain c.args.parts.now) at c.in_ok-laid.ensures.laid.the_remaining))
+    rw (c.deref-2.ensures.value, c.in_ok-rest.ensures)
+    (all_there (remaining c.args.wishes.now c.args.parts.now) c.in_ok-laid.laid.parts.items c.in_ok-laid.ensures.laid.the_remaining)
 
 pub returns : goal.returns
 returns c =
     let kind = c.args.kind in
     let parts = c.args.parts.now in
+    let wishes = c.args.wishes.now in
     let layout = c.args.layout.now in
     let laid = c.in_ok-laid.laid.parts.items in
     let starts = c.in_ok-laid.laid.starts.items in
     let placed = c.in_ok-placed.placed.items in
-    let served = without_wishes kind parts c.args.wishes.now layout c.requires.served in
+    let served = c.requires.served in
     let order = c.in_ok-laid.ensures.laid in
-    let as_many = c.in_ok-placed.ensures.as_many in
-    let each = rw (c.deref.ensures.value, c.deref-2.ensures.value) at c.in_ok-placed.ensures.each in
+    let as_many = rw (c.deref-2.ensures.value, c.in_ok-rest.ensures) at c.in_ok-placed.ensures.as_many in
+    let each = rw (c.deref-2.ensures.value, c.in_ok-rest.ensures) at c.in_ok-placed.ensures.each in
     let is_limit : c.limit-limit.result ≡ limit_of kind c.args.sectors = c.limit-limit.ensures in
-    let fits : last_end (floor_of kind) (map (λ (part : Part). part.count) laid) starts ≤ limit_of kind c.args.sectors =
+    let fits : last_end (floor_of kind) (map (wanted wishes) laid) starts ≤ limit_of kind c.args.sectors =
     omega (arith, c.in_ok-laid.ensures.end, c.limit-limit.ensures, c.if-limit-laid.false) in
     let room : HasRoom kind c.args.sectors = record { enough = omega (arith, c.least_sectors.ensures); not_too_many = omega arith } in
+    let due : IsDue kind parts wishes c.args.sectors = record { room = room; asked = c.in_ok-judge_wishes.ensures.fine; lengths = c.in_ok-judge_lengths.ensures.fine } in
     let extra = rw (c.in_ok-laid.ensures.end, c.deref-3.ensures.value, is_limit, sym c.new.ensures.extra) at c.extra_part-extra.ensures in
+    let are = are_placed kind parts wishes layout laid starts served order placed as_many each in
     record {
-      plan = is_plan kind parts layout laid starts served order placed as_many each c.args.wishes.now c.requires.served.unwished c.args.sectors room c.new.result fits
-          c.new.ensures.parts (c.new.ensures.limit ∙ is_limit) extra;
+      plan = record {
+        due = due;
+        laid = laid;
+        starts = starts;
+        order = order;
+        fits = fits;
+        placed = rw c.new.ensures.parts are;
+        is_limit = c.new.ensures.limit ∙ is_limit;
+        is_extra = rw (c.new.ensures.parts, c.new.ensures.limit, is_limit) extra;
+      };
       none = tt;
-      same_order = rw c.new.ensures.parts (in_same_order kind parts layout laid starts served order placed as_many each);
-      apart = rw c.new.ensures.parts (all_apart kind parts layout laid starts served order placed as_many each);
-      inside = rw (c.new.ensures.parts, c.new.ensures.limit, is_limit) (all_inside kind parts layout laid starts served order placed as_many each (limit_of kind c.args.sectors) fits);
+      same_order = λ unwished.
+          let Are : List Wish → Type 0 = λ ws. ArePlaced ws parts laid starts placed in
+          rw c.new.ensures.parts (in_same_order parts laid starts placed (subst Are unwished are));
+      apart = rw c.new.ensures.parts (all_apart kind parts wishes layout laid starts served order placed as_many each);
+      inside = rw (c.new.ensures.parts, c.new.ensures.limit, is_limit) (all_inside kind parts wishes layout laid starts served order placed as_many each (limit_of kind c.args.sectors) fits);
       behind = rw (c.new.ensures.parts, c.new.ensures.limit, is_limit)
-          (extra_behind kind parts layout laid starts served order placed as_many each (limit_of kind c.args.sectors) c.new.result.extra extra);
+          (extra_behind kind parts wishes layout laid starts served order placed as_many each (limit_of kind c.args.sectors) c.new.result.extra extra);
       limit = omega (arith, c.new.ensures.limit, is_limit, limit_inside kind c.args.sectors);
     }

@@ -1,0 +1,121 @@
+//! The lengths that wishes ask for.
+ghost use Rattle.std.specs.Prelude.{◌≡◌, ℕ, ◌*◌, ◌^◌, ◌≤◌, length, map, All, IfOk};
+ghost use Rattle.layout_plan.specs.declared.part.Part.{Part};
+ghost use Rattle.layout_plan.specs.Size.{wanted_sectors};
+ghost use Rattle.layout_plan.specs.Wishes.{asked_length, fate_of, is_delete, is_deleted, number_of, remaining, wanted, wish_of};
+
+use crate::part::{Fate, Part};
+use crate::wish::{Size, What, Wish};
+use std::alloc::{AllocError, Global};
+
+/// The bytes of a sector.
+const SECTOR: u64 = 512;
+
+/// So many hundredths of a length, times 100.
+fn hundredths(old: u64, percent: u32) -> u64
+    requires { old ≤ 2 ^ 31 }
+    ensures product { result ≡ old * percent }
+    ensures few { result ≤ 2 ^ 63 }
+{
+    old * u64::from(percent)
+}
+
+/// The sectors that a size asks for, where there were `old` sectors.
+fn sectors_of(old: u64, size: Size) -> u64
+    requires { old ≤ 2 ^ 31 }
+    ensures length { result ≡ wanted_sectors old size }
+    ensures few { result ≤ 10 ^ 17 }
+{
+    match size {
+        Size::Bytes(bytes) => bytes.div_ceil(SECTOR),
+        Size::More(bytes) => old + bytes.div_ceil(SECTOR),
+        Size::Less(bytes) => old.saturating_sub(bytes / SECTOR),
+        Size::Percent(percent) => hundredths(old, percent).div_ceil(100),
+        Size::MorePercent(percent) => old + hundredths(old, percent).div_ceil(100),
+        Size::LessPercent(percent) => old.saturating_sub(hundredths(old, percent) / 100),
+    }
+}
+
+/// What is wished of the part of that number: the first wish that names it.
+pub fn wish_of(wishes: &[Wish], number: u32) -> Option<What>
+    ensures { result ≡ wish_of wishes.now number }
+{
+    let wish = wishes.iter().find(|wish| wish.part == number)?;
+    Some(wish.what)
+}
+
+/// The length that a wish asks for, where there were `old` sectors.
+fn asked_length(what: Option<What>, old: u64) -> u64
+    requires { old ≤ 2 ^ 31 }
+    ensures length { result ≡ asked_length what old }
+    ensures few { result ≤ 10 ^ 17 }
+{
+    match what {
+        Some(What::Resize(size) | What::Force(size)) => sectors_of(old, size),
+        _ => old,
+    }
+}
+
+/// The length that a part shall have.
+pub fn wanted(wishes: &[Wish], part: &Part) -> u64
+    requires { part.now.count ≤ 2 ^ 31 }
+    ensures length { result ≡ wanted wishes.now part.now }
+    ensures few { result ≤ 10 ^ 17 }
+{
+    asked_length(wish_of(wishes, part.number), part.count)
+}
+
+/// Whether the part isn't made.
+pub fn is_deleted(wishes: &[Wish], part: &Part) -> bool
+    ensures { result ≡ is_deleted wishes.now part.now }
+{
+    matches!(wish_of(wishes, part.number), Some(What::Delete))
+}
+
+/// The parts that are made, in their order.
+pub fn remaining(alloc: Global, wishes: &[Wish], parts: &[Part]) -> Result<Vec<Part>, AllocError>
+    ensures { IfOk result (λ rest. rest.items ≡ remaining wishes.now parts.now) }
+{
+    parts
+        .iter()
+        .filter(|part| !is_deleted(wishes, part))
+        .copied()
+        .collect(alloc)
+}
+
+/// The number on the target of the part of that number.
+pub fn number_of(wishes: &[Wish], parts: &[Part], number: u32) -> u32
+    requires { length parts.now ≤ 128 }
+    ensures { result ≡ number_of wishes.now parts.now number }
+{
+    let gone = parts
+        .iter()
+        .filter(|part| is_deleted(wishes, part) && part.number < number)
+        .count();
+    number.saturating_sub(gone as u32)
+}
+
+/// The lengths that the parts shall have.
+pub fn lengths_of(alloc: Global, wishes: &[Wish], parts: &[Part]) -> Result<Vec<u64>, AllocError>
+    requires { All (λ (part : Part). part.count ≤ 2 ^ 31) parts.now }
+    ensures lengths { IfOk result (λ lengths. lengths.items ≡ map (wanted wishes.now) parts.now) }
+    ensures few { IfOk result (λ lengths. All (λ (length : ℕ). length ≤ 10 ^ 17) lengths.items) }
+{
+    let mut lengths = Vec::new(alloc);
+    for part in parts {
+        lengths.push(wanted(wishes, part))?;
+    }
+    Ok(lengths)
+}
+
+/// What becomes of a part that is made.
+pub fn fate_of(wishes: &[Wish], part: &Part) -> Fate
+    requires { part.now.count ≤ 2 ^ 31 }
+    ensures { result ≡ fate_of wishes.now part.now }
+{
+    match wish_of(wishes, part.number) {
+        Some(What::Ignore) => Fate::Ignored,
+        _ if wanted(wishes, part) == part.count => Fate::Kept,
+        _ => Fate::Resized,
+    }
+}
