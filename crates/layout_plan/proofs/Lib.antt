@@ -1,7 +1,10 @@
 pub mod Next
 pub mod Lines
 pub mod Starts
+pub mod Orders
+pub mod Ends
 pub mod Refused
+pub mod Settled
 pub mod Slots
 pub mod Sound
 pub mod Unique

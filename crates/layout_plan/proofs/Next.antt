@@ -35,3 +35,20 @@ pub some_next : (align n : ℕ) → 0 < align → (found : ℕ) × IsNext align 
 some_next align n some =
     let bounds = div_ceil_times n align some in
     ((n / align + min 1 (n % align)) * align, record { multiple = (n / align + min 1 (n % align), refl); above = bounds.0; least = bounds.1 })
+
+-- the next multiple behind a later place is no earlier one
+pub next_rises : (align n m a b : ℕ) → n ≤ m → IsNext align n a → IsNext align m b → a ≤ b
+next_rises align n m a b less x y =
+    elim (cases_lt b a) [
+      | inl low ↦
+          let k = y.multiple.0 in
+          let j = x.multiple.0 in
+          let is_b : b ≡ k * align = y.multiple.1 in
+          let is_a : a ≡ j * align = x.multiple.1 in
+          let before : k * align < j * align = omega arith in
+          let far : k * align + align ≤ j * align = further align k j before in
+          let from : m ≤ b = y.above in
+          let to : a < n + align = x.least in
+          absurd (omega arith)
+      | inr high ↦ high
+    ]

@@ -79,4 +79,4 @@ module _ (kind : Kind) (parts : List Part) (wishes : List Wish) (layout : Layout
   refused_length fine fault first =
       let Refuses : NoPlan → Type 0 = λ one. IsFirstBadLength wishes parts one → HasNoPlan kind parts wishes layout sectors one in
       length_fault_of Refuses wishes (slice_index_or parts first.place any_part) fault (first.here any_part)
-      (λ one. record { room = room; asked = fine; first = one }) (λ one. record { room = room; asked = fine; first = one }) first
+      (λ one. record { room = room; asked = fine; first = one }) (λ one. inl (record { room = room; asked = fine; first = one })) first

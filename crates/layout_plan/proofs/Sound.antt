@@ -19,6 +19,17 @@ use Rattle.layout_plan.specs.Wishes.{remaining, number_of, wanted}
 use Rattle.layout_plan.proofs.Lines.{ends_before, starts_behind, ends_by_last, last_end_is, last_end_none}
 use Rattle.layout_plan.proofs.Slots.{all_remain, in_turn, no_more_remain, same_number}
 
+-- what is served is served whatever is wished
+pub served_so : (kind : Kind) (parts : List Part) (wishes other : List Wish) (layout : Layout) → IsServed kind parts wishes layout → IsServed kind parts other layout
+served_so kind parts wishes other layout served = record {
+  an_mbr = served.an_mbr;
+  each = served.each;
+  by_number = served.by_number;
+  other_starts = served.other_starts;
+  some_align = served.some_align;
+  small_align = served.small_align;
+}
+
 floor_some : (kind : Kind) → 1 ≤ floor_of kind
 floor_some Mbr = omega arith
 floor_some Gpt = omega arith

@@ -1,205 +1,26 @@
 -- That a job has at most one plan, and none where there is a reason against it.
-use Rattle.std.proofs.Common.{◌≡◌, ◌≢◌, ℕ, zero, suc, ◌<◌, ◌≤◌, ◌⊎◌, true, false, not, List, length, map, slice_index, slice_index_or, refl, sym, ◌∙◌, ap, subst, inl, inr, arith, AllPairs, IsPermutation, Contains, Option, Some, None}
-use Rattle.std.proofs.lemmas.Bool.{cases_Bool, cases_eq, cases_lt, cases_order}
-use Rattle.std.proofs.lemmas.Grind.{same_number_lists}
-use Rattle.std.proofs.lemmas.List.{get_or_default, length-map, same_lists}
-use Rattle.std.proofs.lemmas.List.Elements.{All-map, All-contains, Contains-get_or}
-use Rattle.std.proofs.lemmas.List.Sorted.{Contains-permutation, IsPermutation-sym, IsPermutation-trans, length_permutation}
-use Rattle.std.proofs.lemmas.List.Filters.{length-filter_both}
+use Rattle.std.proofs.Common.{◌≡◌, ℕ, ◌≤◌, List, map, refl, sym, ◌∙◌, subst, inl, inr, arith, Option, Some, None}
+use Rattle.std.proofs.lemmas.Bool.{cases_order}
 use Rattle.layout_plan.specs.declared.fault.NoPlan.{NoPlan}
 use Rattle.layout_plan.specs.declared.fault.NoPlan.TheVariants.{TooSmall, TooLarge, NoSuchPart, NamedTwice, Extended, Empty, WouldCut, DoesNotFit, NoSurplus, NoDeficit, Memory}
-use Rattle.layout_plan.specs.declared.part.Fate.{Fate}
 use Rattle.layout_plan.specs.declared.part.Kind.{Kind}
 use Rattle.layout_plan.specs.declared.part.Part.{Part}
 use Rattle.layout_plan.specs.declared.part.Placed.{Placed}
-use Rattle.layout_plan.specs.declared.part.Role.TheVariants.{Slot}
 use Rattle.layout_plan.specs.declared.wish.Layout.{Layout}
 use Rattle.layout_plan.specs.declared.wish.Wish.{Wish}
-use Rattle.layout_plan.specs.declared.wish.What.TheVariants.{Expand}
-use Rattle.layout_plan.specs.Layouts.{IsLayout, last_end}
+use Rattle.layout_plan.specs.declared.wish.What.{What}
+use Rattle.layout_plan.specs.declared.wish.What.TheVariants.{Expand, Shrink, Resize, Force, Delete, Ignore}
+use Rattle.layout_plan.specs.Layouts.{last_end}
 use Rattle.layout_plan.specs.Faults.{IsWishFault, IsLengthFault}
-use Rattle.layout_plan.specs.Plans.{Plan, Begins, IsLeastStart, IsLaid, StandsAt, ArePlaced, IsLeastFree, IsExtra, IsExtraPart, IsPlan, is_taken}
-use Rattle.layout_plan.specs.Refusals.{IsTooLong, HasNoPlan}
-use Rattle.layout_plan.specs.Tables.{floor_of, most_numbers}
-use Rattle.layout_plan.specs.Wishes.{remaining, wanted, is_deleted}
-use Rattle.layout_plan.proofs.Lines.{one_at_most}
-use Rattle.layout_plan.proofs.Next.{next_unique}
-
-abbrev Rise : List Part → Type 0
-Rise xs = AllPairs (λ (before after : Part). before.start < after.start) xs
-
--- values to read lists with
-any_part : Part
-any_part = record { number = 0; role = Slot; start = 0; count = 0; content = 0 }
+use Rattle.layout_plan.specs.Plans.{Plan, HasEnd, IsLaid, ArePlaced, IsExtra, IsGivenUp, IsGreatest, IsPlan, IsRight, IsRightFor, IsTaken}
+use Rattle.layout_plan.specs.Refusals.{HasNoDeficit, HasNoPlan, HasNoSurplus, HasToCut, IsFlexible, IsTooLong, least_for, least_sectors}
+use Rattle.layout_plan.specs.Tables.{floor_of, limit_of}
+use Rattle.layout_plan.specs.Wishes.{flexible_part, remaining, settled, wanted, wish_of}
+use Rattle.layout_plan.proofs.Orders.{any_part, one_extra, one_line, one_made, one_order}
+use Rattle.layout_plan.proofs.Ends.{end_rises, one_end}
 
 any_wish : Wish
 any_wish = record { place = 0; part = 0; what = Expand }
-
--- where two rising lists are the same up to k, an element that both have stands in the other at k or behind it
-no_earlier : (xs ys : List Part) → Rise xs → Rise ys → (k : ℕ) (d : Part)
-    → ((j : ℕ) (e : Part) → j < k → slice_index_or xs j e ≡ slice_index_or ys j e)
-    → k < length xs → k < length ys → Contains ys (slice_index_or xs k d)
-    → (slice_index_or xs k d ≡ slice_index_or ys k d) ⊎ ((slice_index_or ys k d).start < (slice_index_or xs k d).start)
-no_earlier xs ys rise other k d below in_xs in_ys there =
-    let x : Part = slice_index_or xs k d in
-    let m : ℕ = there.0 in
-    let within : m < length ys = there.1 in
-    let is : slice_index_or ys m d ≡ x = get_or_default ys m d x within ∙ there.2 in
-    let starts : (slice_index_or ys m d).start ≡ x.start = ap (λ (p : Part). p.start) is in
-    elim (cases_order m k) [
-      | inl same ↦ inl (sym is ∙ ap (λ (n : ℕ). slice_index_or ys n d) same)
-      | inr apart ↦ elim apart [
-        | inl early ↦
-            let less : (slice_index_or xs m d).start < (slice_index_or xs k d).start = rise m k d early in_xs in
-            let equal : (slice_index_or xs m d).start ≡ (slice_index_or ys m d).start = ap (λ (p : Part). p.start) (below m d early) in
-            absurd (omega arith)
-        | inr late ↦
-            let less : (slice_index_or ys k d).start < (slice_index_or ys m d).start = other k m d late within in
-            inr (omega arith)
-      ]
-    ]
-
-same_below : (xs ys : List Part) → Rise xs → Rise ys → length xs ≡ length ys
-    → ((k : ℕ) (d : Part) → k < length xs → Contains ys (slice_index_or xs k d))
-    → ((k : ℕ) (d : Part) → k < length ys → Contains xs (slice_index_or ys k d))
-    → (n : ℕ) → n ≤ length xs → (k : ℕ) (d : Part) → k < n → slice_index_or xs k d ≡ slice_index_or ys k d
-same_below xs ys rise other as_many there back zero within k d before = absurd (omega arith)
-same_below xs ys rise other as_many there back (suc n) within k d before =
-    elim (cases_lt k n) [
-      | inl less ↦ same_below xs ys rise other as_many there back n (omega arith) k d less
-      | inr more ↦
-          let is : k ≡ n = omega arith in
-          let in_xs : n < length xs = omega arith in
-          let in_ys : n < length ys = omega arith in
-          let low : n ≤ length xs = omega arith in
-          let same_n : slice_index_or xs n d ≡ slice_index_or ys n d =
-          elim (no_earlier xs ys rise other n d (λ j e less. same_below xs ys rise other as_many there back n low j e less) in_xs in_ys (there n d in_xs)) [
-            | inl same ↦ same
-            | inr below ↦
-                elim (no_earlier ys xs other rise n d (λ j e less. sym (same_below xs ys rise other as_many there back n low j e less)) in_ys in_xs (back n d in_ys)) [
-                  | inl same ↦ sym same
-                  | inr above ↦ absurd (omega arith)
-                ]
-          ] in
-          rw is same_n
-    ]
-
-one_order : (zs xs ys : List Part) → IsPermutation zs xs → IsPermutation zs ys → Rise xs → Rise ys → xs ≡ ys
-one_order zs xs ys to_xs to_ys rise other =
-    let over : IsPermutation xs ys = IsPermutation-trans xs zs ys (IsPermutation-sym zs xs to_xs) to_ys in
-    let back : IsPermutation ys xs = IsPermutation-sym xs ys over in
-    let as_many : length xs ≡ length ys = sym (length_permutation xs ys over) in
-    same_lists xs ys as_many
-    (λ k d within. same_below xs ys rise other as_many
-    (λ j e inside. Contains-permutation xs ys (slice_index_or xs j e) over (Contains-get_or xs j e inside))
-    (λ j e inside. Contains-permutation ys xs (slice_index_or ys j e) back (Contains-get_or ys j e inside))
-    (length xs) (omega arith) k d within)
-
-no_less : (parts : List Part) (a b : ℕ) → 0 < length parts → IsLeastStart parts a → IsLeastStart parts b → a ≤ b
-no_less parts a b some x y =
-    All-contains (λ (start : ℕ). a ≤ start) (map (λ (part : Part). part.start) parts) b
-    (All-map (λ (start : ℕ). a ≤ start) (λ (part : Part). part.start) parts x.below) (y.attained some)
-
-one_begin : (kind : Kind) (layout : Layout) (parts : List Part) (a b : ℕ) → 0 < length parts → Begins kind layout parts a → Begins kind layout parts b → a ≡ b
-one_begin kind layout parts a b some x y =
-    elim (cases_Bool layout.always) [
-      | inl always ↦ next_unique layout.align (floor_of kind) a b (x.aligned always) (y.aligned always)
-      | inr never ↦
-          let low : a ≤ b = no_less parts a b some (x.stays never) (y.stays never) in
-          let high : b ≤ a = no_less parts b a some (y.stays never) (x.stays never) in
-          omega arith
-    ]
-
-module _ (kind : Kind) (parts : List Part) (wishes : List Wish) (layout : Layout) where
-  some_part : (laid : List Part) → IsPermutation (remaining wishes parts) laid → length laid ≢ 0 → 0 < length parts
-  some_part laid same some = omega (arith, length_permutation (remaining wishes parts) laid same, length-filter_both (λ (part : Part). not (is_deleted wishes part)) (λ (part : Part). not (not (is_deleted wishes part))) (λ part. refl) parts)
-
-  one_line : (laid : List Part) (starts other : List ℕ) → IsLaid kind parts wishes layout laid starts → IsLaid kind parts wishes layout laid other → starts ≡ other
-  one_line laid starts other x y =
-      let long : length starts ≡ length (map (wanted wishes) laid) = x.stand.as_many in
-      let as_long : length other ≡ length (map (wanted wishes) laid) = y.stand.as_many in
-      elim (cases_eq (length laid) 0) [
-        | inl none ↦ same_number_lists starts other (long ∙ sym as_long) (λ k within. absurd (omega (arith, length-map laid (wanted wishes))))
-        | inr some ↦
-            let same : x.begin ≡ y.begin = one_begin kind layout parts x.begin y.begin (some_part laid x.the_remaining some) x.begins y.begins in
-            let P : ℕ → Type 0 = λ begin. IsLayout layout.align begin (map (wanted wishes) laid) starts in
-            one_at_most layout.align y.begin (map (wanted wishes) laid) starts other (subst P same x.stand) y.stand
-      ]
-
-one_place : (laid : List Part) → Rise laid → (part : Part) (i j : ℕ) → i < length laid → j < length laid
-    → slice_index_or laid i part ≡ part → slice_index_or laid j part ≡ part → i ≡ j
-one_place laid rise part i j in_i in_j is_i is_j =
-    let start_i : (slice_index_or laid i part).start ≡ part.start = ap (λ (p : Part). p.start) is_i in
-    let start_j : (slice_index_or laid j part).start ≡ part.start = ap (λ (p : Part). p.start) is_j in
-    elim (cases_order i j) [
-      | inl same ↦ same
-      | inr apart ↦ elim apart [
-        | inl before ↦ let less = rise i j part before in_j in absurd (omega arith)
-        | inr after ↦ let less = rise j i part after in_i in absurd (omega arith)
-      ]
-    ]
-
-abbrev placed_of : ℕ → ℕ → ℕ → ℕ → ℕ → Fate → Placed
-placed_of from number ebr start count fate = record { from = from; number = number; ebr = ebr; start = start; count = count; fate = fate }
-
-same_placed : (p q : Placed) → p.from ≡ q.from → p.number ≡ q.number → p.ebr ≡ q.ebr → p.start ≡ q.start → p.count ≡ q.count → p.fate ≡ q.fate → p ≡ q
-same_placed p q a b c d e f =
-    let made : placed_of p.from p.number p.ebr p.start p.count p.fate ≡ placed_of q.from q.number q.ebr q.start q.count q.fate = rw (a, b, c, d, e, f) in made
-
-one_start : (laid : List Part) (starts : List ℕ) → Rise laid → (part : Part) (a b : ℕ) → StandsAt laid starts part a → StandsAt laid starts part b → a ≡ b
-one_start laid starts rise part a b x y =
-    let places : x.place ≡ y.place = one_place laid rise part x.place y.place x.within y.within x.is_part y.is_part in
-    x.there ∙ ap (slice_index starts) places ∙ sym y.there
-
-one_made : (wishes : List Wish) (parts laid : List Part) (starts : List ℕ) (placed other : List Placed) → Rise laid
-    → ArePlaced wishes parts laid starts placed → ArePlaced wishes parts laid starts other → placed ≡ other
-one_made wishes parts laid starts placed other rise x y =
-    same_lists placed other (x.as_many ∙ sym y.as_many) (λ k d within.
-    let p = x.each k any_part d within in
-    let q = y.each k any_part d (omega (arith, x.as_many, y.as_many)) in
-    same_placed (slice_index_or placed k d) (slice_index_or other k d)
-    (p.from ∙ sym q.from) (p.number ∙ sym q.number) (p.no_boot_record ∙ sym q.no_boot_record)
-    (one_start laid starts rise _ _ _ p.stands q.stands)
-    (p.count ∙ sym q.count) (p.fate ∙ sym q.fate))
-
-no_lower_free : (most : ℕ) (placed : List Placed) (a b : ℕ) → IsLeastFree most placed a → IsLeastFree most placed b → a < b → ⊥
-no_lower_free most placed a b x y low =
-    let taken : is_taken placed a ≡ true = y.least a x.from_one low in
-    let free : is_taken placed a ≡ false = x.free in
-    cc
-
-one_free : (most : ℕ) (placed : List Placed) (a b : ℕ) → IsLeastFree most placed a → IsLeastFree most placed b → a ≡ b
-one_free most placed a b x y =
-    let low : a < b → ⊥ = no_lower_free most placed a b x y in
-    let high : b < a → ⊥ = no_lower_free most placed b a y x in
-    omega arith
-
-some_or_none : (kind : Kind) (layout : Layout) (last : ℕ) (placed : List Placed) (limit : ℕ) (one : Placed)
-    → IsExtra kind layout last placed limit None → IsExtraPart kind layout last placed limit one → ⊥
-some_or_none kind layout last placed limit one none some =
-    elim none [
-      | inl unasked ↦ let asked : layout.extra ≡ true = some.asked in cc
-      | inr rest ↦ elim rest [
-        | inl cramped ↦
-            let same : cramped.start ≡ one.start = next_unique layout.align last cramped.start one.start cramped.behind some.behind in
-            omega (arith, cramped.too_little, some.to_limit, some.enough)
-        | inr all_taken ↦
-            let taken : is_taken placed one.number ≡ true = all_taken one.number some.number.from_one some.number.up_to_most in
-            let free : is_taken placed one.number ≡ false = some.number.free in
-            cc
-      ]
-    ]
-
-one_extra : (kind : Kind) (layout : Layout) (last : ℕ) (placed : List Placed) (limit : ℕ) (a b : Option Placed)
-    → IsExtra kind layout last placed limit a → IsExtra kind layout last placed limit b → a ≡ b
-one_extra kind layout last placed limit None None x y = refl
-one_extra kind layout last placed limit None (Some b) x y = absurd (some_or_none kind layout last placed limit b x y)
-one_extra kind layout last placed limit (Some a) None x y = absurd (some_or_none kind layout last placed limit a y x)
-one_extra kind layout last placed limit (Some a) (Some b) x y =
-    let start : a.start ≡ b.start = next_unique layout.align last a.start b.start x.behind y.behind in
-    let count : a.count ≡ b.count = omega (arith, x.to_limit, y.to_limit) in
-    ap Some (same_placed a b (x.from_none ∙ sym y.from_none) (one_free (most_numbers kind) placed a.number b.number x.number y.number)
-    (x.no_boot_record ∙ sym y.no_boot_record) start count (x.kept ∙ sym y.kept))
 
 abbrev plan_of : List Placed → Option Placed → ℕ → Plan
 plan_of parts extra limit = record { parts = parts; extra = extra; limit = limit }
@@ -208,60 +29,135 @@ same_plan : (p q : Plan) → p.parts ≡ q.parts → p.extra ≡ q.extra → p.l
 same_plan p q a b c =
     let made : plan_of p.parts p.extra p.limit ≡ plan_of q.parts q.extra q.limit = rw (a, b, c) in made
 
-module _ (kind : Kind) (parts : List Part) (wishes : List Wish) (layout : Layout) (sectors : ℕ) where
-  one_last : (one : Plan) (laid : List Part) (starts : List ℕ) → (x : IsPlan kind parts wishes layout sectors one) → IsLaid kind parts wishes layout laid starts
-      → (x.laid ≡ laid) × (x.starts ≡ starts)
-  one_last one laid starts x order =
-      let same : x.laid ≡ laid = one_order (remaining wishes parts) x.laid laid x.order.the_remaining order.the_remaining x.order.rising order.rising in
-      let P : List Part → Type 0 = λ l. IsLaid kind parts wishes layout l x.starts in
-      (same, one_line kind parts wishes layout laid x.starts starts (subst P same x.order) order)
+-- the parts are laid out in one way
+one_last : (kind : Kind) (parts : List Part) (wishes : List Wish) (layout : Layout) (laid other : List Part) (xs ys : List ℕ)
+    → IsLaid kind parts wishes layout laid xs → IsLaid kind parts wishes layout other ys → (laid ≡ other) × (xs ≡ ys)
+one_last kind parts wishes layout laid other xs ys x y =
+    let same : laid ≡ other = one_order (remaining wishes parts) laid other x.the_remaining y.the_remaining x.rising y.rising in
+    let P : List Part → Type 0 = λ l. IsLaid kind parts wishes layout l xs in
+    (same, one_line kind parts wishes layout other xs ys (subst P same x) y)
 
-  pub one_planned : (one other : Plan) → IsPlan kind parts wishes layout sectors one → IsPlan kind parts wishes layout sectors other → other ≡ one
+module _ (kind : Kind) (parts : List Part) (wishes : List Wish) (layout : Layout) where
+  -- there are one most sectors that fit
+  one_greatest : (limit a b : ℕ) → IsGreatest kind parts wishes layout limit a → IsGreatest kind parts wishes layout limit b → a ≡ b
+  one_greatest limit a b x y =
+      elim (cases_order a b) [
+        | inl same ↦ same
+        | inr apart ↦ elim apart [
+          | inl less ↦ let long = x.no_more b y.last less y.is_last in let short = y.fits in absurd (omega arith)
+          | inr more ↦ let long = y.no_more a x.last more x.is_last in let short = x.fits in absurd (omega arith)
+        ]
+      ]
+
+  one_right_for : (limit a b : ℕ) (part : Part) (what : Option What) → IsRightFor kind parts wishes layout limit a part what → IsRightFor kind parts wishes layout limit b part what → a ≡ b
+  one_right_for limit a b part (Some Expand) x y = one_greatest limit a b x.greatest y.greatest
+  one_right_for limit a b part (Some Shrink) x y = one_greatest limit a b x.greatest y.greatest
+  one_right_for limit a b part (Some (Resize size)) x y = x ∙ sym y
+  one_right_for limit a b part (Some (Force size)) x y = x ∙ sym y
+  one_right_for limit a b part (Some Delete) x y = x ∙ sym y
+  one_right_for limit a b part (Some Ignore) x y = x ∙ sym y
+  one_right_for limit a b part None x y = x ∙ sym y
+
+  one_right : (limit a b : ℕ) (part : Option Part) → IsRight kind parts wishes layout limit a part → IsRight kind parts wishes layout limit b part → a ≡ b
+  one_right limit a b None x y = x ∙ sym y
+  one_right limit a b (Some part) x y = one_right_for limit a b part (wish_of wishes part.number) x y
+
+  -- they are no fewer than those with which the layout has to fit at least
+  least_for_right : (limit a : ℕ) (part : Part) (what : Option What) → IsRightFor kind parts wishes layout limit a part what → least_for part what ≤ a
+  least_for_right limit a part (Some Expand) x = let more = x.more in omega arith
+  least_for_right limit a part (Some Shrink) x = x.some
+  least_for_right limit a part (Some (Resize size)) x = omega arith
+  least_for_right limit a part (Some (Force size)) x = omega arith
+  least_for_right limit a part (Some Delete) x = omega arith
+  least_for_right limit a part (Some Ignore) x = omega arith
+  least_for_right limit a part None x = omega arith
+
+  least_right : (limit a : ℕ) (part : Option Part) → IsRight kind parts wishes layout limit a part → least_sectors wishes part ≤ a
+  least_right limit a None x = omega arith
+  least_right limit a (Some part) x = least_for_right limit a part (wish_of wishes part.number) x
+
+  -- what is right of a part that takes or gives up
+  right_of : (limit a : ℕ) (what : What) (part : Part) → IsFlexible parts wishes what part → IsRight kind parts wishes layout limit a (flexible_part wishes parts)
+      → IsRightFor kind parts wishes layout limit a part (Some what)
+  right_of limit a what part flexible right =
+      let Of : Option Part → Type 0 = λ one. IsRight kind parts wishes layout limit a one in
+      let For : Option What → Type 0 = λ one. IsRightFor kind parts wishes layout limit a part one in
+      subst For flexible.the_wish (subst Of flexible.the_part right)
+
+module _ (kind : Kind) (parts : List Part) (wishes : List Wish) (layout : Layout) (target : ℕ) where
+  pub one_planned : (one other : Plan) → IsPlan kind parts wishes layout target one → IsPlan kind parts wishes layout target other → other ≡ one
   one_planned one other x y =
-      let both = one_last one y.laid y.starts x y.order in
+      let sectors : x.sectors ≡ y.sectors = one_right kind parts wishes layout (limit_of kind target) x.sectors y.sectors (flexible_part wishes parts) x.right y.right in
+      let ws = settled y.sectors wishes in
+      let Laid : ℕ → Type 0 = λ n. IsLaid kind parts (settled n wishes) layout x.laid x.starts in
+      let Made : ℕ → Type 0 = λ n. ArePlaced (settled n wishes) parts x.laid x.starts one.parts in
+      let Extra : ℕ → Type 0 = λ n. IsExtra kind layout (last_end (floor_of kind) (map (wanted (settled n wishes)) x.laid) x.starts) one.parts one.limit one.extra in
+      let both = one_last kind parts ws layout x.laid y.laid x.starts y.starts (subst Laid sectors x.order) y.order in
       let laid : x.laid ≡ y.laid = both.0 in
       let starts : x.starts ≡ y.starts = both.1 in
-      let P : List Part → Type 0 = λ l. ArePlaced wishes parts l x.starts one.parts in
-      let Q : List ℕ → Type 0 = λ s. ArePlaced wishes parts y.laid s one.parts in
-      let made : one.parts ≡ other.parts = one_made wishes parts y.laid y.starts one.parts other.parts y.order.rising (subst Q starts (subst P laid x.placed)) y.placed in
+      let P : List Part → Type 0 = λ l. ArePlaced ws parts l x.starts one.parts in
+      let Q : List ℕ → Type 0 = λ s. ArePlaced ws parts y.laid s one.parts in
+      let made : one.parts ≡ other.parts = one_made ws parts y.laid y.starts one.parts other.parts y.order.rising (subst Q starts (subst P laid (subst Made sectors x.placed))) y.placed in
       let limit : one.limit ≡ other.limit = x.is_limit ∙ sym y.is_limit in
-      let lasts : last_end (floor_of kind) (map (wanted wishes) x.laid) x.starts ≡ last_end (floor_of kind) (map (wanted wishes) y.laid) y.starts =
+      let lasts : last_end (floor_of kind) (map (wanted ws) x.laid) x.starts ≡ last_end (floor_of kind) (map (wanted ws) y.laid) y.starts =
       rw (laid, starts) in
-      let extra_of_one : IsExtra kind layout (last_end (floor_of kind) (map (wanted wishes) y.laid) y.starts) other.parts other.limit one.extra =
-      rw (← lasts, ← made, ← limit) x.is_extra in
+      let extra_of_one : IsExtra kind layout (last_end (floor_of kind) (map (wanted ws) y.laid) y.starts) other.parts other.limit one.extra =
+      rw (← lasts, ← made, ← limit) (subst Extra sectors x.is_extra) in
       let extra : one.extra ≡ other.extra = one_extra kind layout _ other.parts other.limit one.extra other.extra extra_of_one y.is_extra in
       sym (same_plan one other made extra limit)
 
-  not_a_wish : (one : Plan) (fault : NoPlan) → IsPlan kind parts wishes layout sectors one → IsWishFault kind parts wishes sectors fault → ⊥
+  not_a_wish : (one : Plan) (fault : NoPlan) → IsPlan kind parts wishes layout target one → IsWishFault kind parts wishes target fault → ⊥
   not_a_wish one fault x y =
       let fine = x.due.asked y.first.place any_wish y.first.within in
       let wrong = y.first.here any_wish in
       cc (fine, wrong)
 
-  not_a_length : (one : Plan) (fault : NoPlan) → IsPlan kind parts wishes layout sectors one → IsLengthFault kind parts wishes sectors fault → ⊥
+  not_a_length : (one : Plan) (fault : NoPlan) → IsPlan kind parts wishes layout target one → IsLengthFault kind parts wishes target fault → ⊥
   not_a_length one fault x y =
       let fine = x.due.lengths y.first.place any_part y.first.within in
       let wrong = y.first.here any_part in
       cc (fine, wrong)
 
-  not_too_long : (one : Plan) (last limit : ℕ) → IsPlan kind parts wishes layout sectors one → IsTooLong kind parts wishes layout sectors last limit → ⊥
-  not_too_long one last limit x y =
-      let both = one_last one y.laid y.starts x y.order in
-      let laid : x.laid ≡ y.laid = both.0 in
-      let starts : x.starts ≡ y.starts = both.1 in
-      let lasts : last_end (floor_of kind) (map (wanted wishes) x.laid) x.starts ≡ last_end (floor_of kind) (map (wanted wishes) y.laid) y.starts =
-      rw (laid, starts) in
-      omega (arith, x.fits, y.is_last, y.is_limit, y.too_long)
+  -- where a plan ends
+  planned_end : (one : Plan) → (x : IsPlan kind parts wishes layout target one) → HasEnd kind parts wishes layout x.sectors (last_end (floor_of kind) (map (wanted (settled x.sectors wishes)) x.laid) x.starts)
+  planned_end one x = record { laid = x.laid; starts = x.starts; order = x.order; is_last = refl }
 
-  pub only_memory : (one : Plan) (fault : NoPlan) → IsPlan kind parts wishes layout sectors one → HasNoPlan kind parts wishes layout sectors fault → fault ≡ Memory
+  not_too_long : (one : Plan) (last limit : ℕ) → IsPlan kind parts wishes layout target one → IsTooLong kind parts wishes layout target last limit → ⊥
+  not_too_long one last limit x y =
+      let least = least_right kind parts wishes layout (limit_of kind target) x.sectors (flexible_part wishes parts) x.right in
+      let rise = end_rises kind parts wishes layout (least_sectors wishes (flexible_part wishes parts)) x.sectors last _ y.is_last (planned_end one x) least in
+      omega (arith, x.fits, y.is_limit, y.too_long, rise)
+
+  not_without_surplus : (one : Plan) (limit : ℕ) → IsPlan kind parts wishes layout target one → HasNoSurplus kind parts wishes layout target limit → ⊥
+  not_without_surplus one limit x y =
+      let taken : IsTaken kind parts wishes layout (limit_of kind target) x.sectors y.part = right_of kind parts wishes layout (limit_of kind target) x.sectors Expand y.part y.takes x.right in
+      let long = y.greatest.no_more x.sectors _ taken.more (planned_end one x) in
+      omega (arith, x.fits, y.is_limit, long)
+
+  not_without_deficit : (one : Plan) (last : ℕ) → IsPlan kind parts wishes layout target one → HasNoDeficit kind parts wishes layout target last → ⊥
+  not_without_deficit one last x y =
+      let given : IsGivenUp kind parts wishes layout (limit_of kind target) x.sectors y.part = right_of kind parts wishes layout (limit_of kind target) x.sectors Shrink y.part y.gives_up x.right in
+      let same = one_end kind parts wishes layout y.part.count last given.too_many.last y.is_last given.too_many.is_last in
+      omega (arith, same, y.fits, given.too_many.too_long)
+
+  not_cut : (one : Plan) (number content sectors : ℕ) → IsPlan kind parts wishes layout target one → HasToCut kind parts wishes layout target number content sectors → ⊥
+  not_cut one number content sectors x y =
+      let given : IsGivenUp kind parts wishes layout (limit_of kind target) x.sectors y.part = right_of kind parts wishes layout (limit_of kind target) x.sectors Shrink y.part y.gives_up x.right in
+      let same = one_greatest kind parts wishes layout (limit_of kind target) x.sectors sectors given.greatest y.greatest in
+      omega (arith, same, y.is_content, y.cuts, given.content)
+
+  pub only_memory : (one : Plan) (fault : NoPlan) → IsPlan kind parts wishes layout target one → HasNoPlan kind parts wishes layout target fault → fault ≡ Memory
   only_memory one (TooSmall n) x y = absurd (omega (arith, x.due.room.enough, y.1))
   only_memory one (TooLarge n) x y = absurd (omega (arith, x.due.room.not_too_many, y.1))
   only_memory one (NoSuchPart place) x y = absurd (not_a_wish one (NoSuchPart place) x y)
   only_memory one (NamedTwice place) x y = absurd (not_a_wish one (NamedTwice place) x y)
   only_memory one (Extended place) x y = absurd (not_a_wish one (Extended place) x y)
   only_memory one (Empty part) x y = absurd (not_a_length one (Empty part) x y)
-  only_memory one (WouldCut part content new) x y = absurd (not_a_length one (WouldCut part content new) x y)
+  only_memory one (WouldCut part content new) x y = elim y [
+    | inl fault ↦ absurd (not_a_length one (WouldCut part content new) x fault)
+    | inr cut ↦ absurd (not_cut one part content new x cut)
+  ]
   only_memory one (DoesNotFit last limit) x y = absurd (not_too_long one last limit x y)
-  only_memory one (NoSurplus limit) x y = absurd y
-  only_memory one (NoDeficit last) x y = absurd y
+  only_memory one (NoSurplus limit) x y = absurd (not_without_surplus one limit x y)
+  only_memory one (NoDeficit last) x y = absurd (not_without_deficit one last x y)
   only_memory one Memory x y = refl

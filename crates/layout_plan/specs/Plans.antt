@@ -6,12 +6,14 @@ use Rattle.layout_plan.specs.declared.part.Kind.{Kind}
 use Rattle.layout_plan.specs.declared.part.Part.{Part}
 use Rattle.layout_plan.specs.declared.part.Placed.{Placed}
 use Rattle.layout_plan.specs.declared.wish.Layout.{Layout}
+use Rattle.layout_plan.specs.declared.wish.What.{What}
+use Rattle.layout_plan.specs.declared.wish.What.TheVariants.{Expand, Shrink}
 use Rattle.layout_plan.specs.declared.wish.Wish.{Wish}
 use Rattle.layout_plan.specs.Alignment.{IsNext}
 use Rattle.layout_plan.specs.Faults.{IsDue}
 use Rattle.layout_plan.specs.Layouts.{IsLayout, Fits, last_end}
 use Rattle.layout_plan.specs.Tables.{floor_of, limit_of, most_numbers}
-use Rattle.layout_plan.specs.Wishes.{wanted, remaining, number_of, fate_of}
+use Rattle.layout_plan.specs.Wishes.{wanted, remaining, number_of, fate_of, flexible_part, settled, wish_of}
 
 -- a plan: the parts of the source by rising number, what is made beside them, and the end of what they may take
 pub record Plan : Type 0 where
@@ -100,16 +102,67 @@ IsExtra kind layout last placed limit None =
     ⊎ ((number : ℕ) → 1 ≤ number → number ≤ most_numbers kind → is_taken placed number ≡ true))
 IsExtra kind layout last placed limit (Some one) = IsExtraPart kind layout last placed limit one
 
--- what is planned is the layout of the parts that remain, and the layout fits
-pub record IsPlan (kind : Kind) (parts : List Part) (wishes : List Wish) (layout : Layout) (sectors : ℕ) (planned : Plan) : Type 0 where
-  pub due : IsDue kind parts wishes sectors
+-- the layout of the parts that remain ends at last, where the part that takes or gives up gets so many sectors
+pub record HasEnd (kind : Kind) (parts : List Part) (wishes : List Wish) (layout : Layout) (sectors last : ℕ) : Type 0 where
   pub laid : List Part
   pub starts : List ℕ
-  pub order : IsLaid kind parts wishes layout laid starts
-  pub fits : Fits (floor_of kind) (limit_of kind sectors) (map (wanted wishes) laid) starts
-  pub placed : ArePlaced wishes parts laid starts planned.parts
-  pub is_limit : planned.limit ≡ limit_of kind sectors
-  pub is_extra : IsExtra kind layout (last_end (floor_of kind) (map (wanted wishes) laid) starts) planned.parts planned.limit planned.extra
+  pub order : IsLaid kind parts (settled sectors wishes) layout laid starts
+  pub is_last : last ≡ last_end (floor_of kind) (map (wanted (settled sectors wishes)) laid) starts
+
+-- with so many sectors the layout ends at the limit or before it
+pub record IsFitting (kind : Kind) (parts : List Part) (wishes : List Wish) (layout : Layout) (limit sectors : ℕ) : Type 0 where
+  pub last : ℕ
+  pub is_last : HasEnd kind parts wishes layout sectors last
+  pub fits : last ≤ limit
+
+-- so many sectors are the most with which the layout ends at the limit or before it
+pub record IsGreatest (kind : Kind) (parts : List Part) (wishes : List Wish) (layout : Layout) (limit sectors : ℕ) : Type 0 where
+  pub last : ℕ
+  pub is_last : HasEnd kind parts wishes layout sectors last
+  pub fits : last ≤ limit
+  pub no_more : (more later : ℕ) → sectors < more → HasEnd kind parts wishes layout more later → limit < later
+
+-- with so many sectors the layout ends behind the limit
+pub record IsTooMany (kind : Kind) (parts : List Part) (wishes : List Wish) (layout : Layout) (limit sectors : ℕ) : Type 0 where
+  pub last : ℕ
+  pub is_last : HasEnd kind parts wishes layout sectors last
+  pub too_long : limit < last
+
+-- the sectors of a part that takes: more than it had, and the most that fit
+pub record IsTaken (kind : Kind) (parts : List Part) (wishes : List Wish) (layout : Layout) (limit sectors : ℕ) (part : Part) : Type 0 where
+  pub more : part.count < sectors
+  pub greatest : IsGreatest kind parts wishes layout limit sectors
+
+-- the sectors of a part that gives up: it had too many, its content fits in what it keeps, and no more would fit
+pub record IsGivenUp (kind : Kind) (parts : List Part) (wishes : List Wish) (layout : Layout) (limit sectors : ℕ) (part : Part) : Type 0 where
+  pub too_many : IsTooMany kind parts wishes layout limit part.count
+  pub some : 1 ≤ sectors
+  pub content : part.content ≤ sectors
+  pub greatest : IsGreatest kind parts wishes layout limit sectors
+
+-- the sectors of the part that takes or gives up, by its wish; where no part does, none
+abbrev pub IsRightFor : Kind → List Part → List Wish → Layout → ℕ → ℕ → Part → Option What → Type 0
+IsRightFor kind parts wishes layout limit sectors part (Some Expand) = IsTaken kind parts wishes layout limit sectors part
+IsRightFor kind parts wishes layout limit sectors part (Some Shrink) = IsGivenUp kind parts wishes layout limit sectors part
+IsRightFor kind parts wishes layout limit sectors part _ = sectors ≡ 0
+
+abbrev pub IsRight : Kind → List Part → List Wish → Layout → ℕ → ℕ → Option Part → Type 0
+IsRight kind parts wishes layout limit sectors None = sectors ≡ 0
+IsRight kind parts wishes layout limit sectors (Some part) = IsRightFor kind parts wishes layout limit sectors part (wish_of wishes part.number)
+
+-- what is planned is the layout of the parts that remain, and the layout fits; sectors are those of the part that takes
+-- or gives up
+pub record IsPlan (kind : Kind) (parts : List Part) (wishes : List Wish) (layout : Layout) (target : ℕ) (planned : Plan) : Type 0 where
+  pub due : IsDue kind parts wishes target
+  pub sectors : ℕ
+  pub right : IsRight kind parts wishes layout (limit_of kind target) sectors (flexible_part wishes parts)
+  pub laid : List Part
+  pub starts : List ℕ
+  pub order : IsLaid kind parts (settled sectors wishes) layout laid starts
+  pub fits : Fits (floor_of kind) (limit_of kind target) (map (wanted (settled sectors wishes)) laid) starts
+  pub placed : ArePlaced (settled sectors wishes) parts laid starts planned.parts
+  pub is_limit : planned.limit ≡ limit_of kind target
+  pub is_extra : IsExtra kind layout (last_end (floor_of kind) (map (wanted (settled sectors wishes)) laid) starts) planned.parts planned.limit planned.extra
 
 -- p ends before q starts, or the other way round
 abbrev pub Apart : Placed → Placed → Type 0

@@ -1,12 +1,10 @@
 -- What the planner serves so far.
-use Rattle.std.specs.Prelude.{◌≡◌, ◌≢◌, ◌+◌, ◌^◌, ◌<◌, ◌≤◌, Bool, true, false, List, All, AllPairs}
+use Rattle.std.specs.Prelude.{◌≡◌, ◌≢◌, ◌+◌, ◌^◌, ◌<◌, ◌≤◌, List, All, AllPairs}
 use Rattle.layout_plan.specs.declared.part.Kind.{Kind}
 use Rattle.layout_plan.specs.declared.part.Kind.TheVariants.{Mbr}
 use Rattle.layout_plan.specs.declared.part.Part.{Part}
 use Rattle.layout_plan.specs.declared.part.Role.TheVariants.{Slot}
 use Rattle.layout_plan.specs.declared.wish.Layout.{Layout}
-use Rattle.layout_plan.specs.declared.wish.What.{What}
-use Rattle.layout_plan.specs.declared.wish.What.TheVariants.{Expand, Shrink}
 use Rattle.layout_plan.specs.declared.wish.Wish.{Wish}
 
 -- a slot of an MBR, in use, whose sectors a table can name
@@ -18,16 +16,9 @@ pub record IsServedPart (part : Part) : Type 0 where
   pub some : 1 ≤ part.count
   pub named : part.start + part.count ≤ 2 ^ 31
 
--- whether a wish is served: no part takes what is left over or gives up what is lacking yet
-abbrev pub is_sized : What → Bool
-is_sized Expand = false
-is_sized Shrink = false
-is_sized _ = true
-
--- slots by rising number that start at different sectors, wishes that are served, and an alignment of at most 512 MiB
+-- slots by rising number that start at different sectors, and an alignment of at most 512 MiB; any wishes
 pub record IsServed (kind : Kind) (parts : List Part) (wishes : List Wish) (layout : Layout) : Type 0 where
   pub an_mbr : kind ≡ Mbr
-  pub sized : All (λ (wish : Wish). is_sized wish.what ≡ true) wishes
   pub each : All IsServedPart parts
   pub by_number : AllPairs (λ (before after : Part). before.number < after.number) parts
   pub other_starts : AllPairs (λ (one other : Part). one.start ≢ other.start) parts

@@ -1,12 +1,32 @@
 -- What the wishes make of each part of the source.
-use Rattle.std.specs.Prelude.{ℕ, ◌-◌, Bool, true, false, not, ◌&&◌, nat_lt, ◌==◌, if◌then◌else◌, List, filter, count_by, find, Option, Some, None}
+use Rattle.std.specs.Prelude.{ℕ, ◌-◌, ◌*◌, Bool, true, false, not, ◌&&◌, nat_lt, ◌==◌, if◌then◌else◌, List, map, filter, count_by, find, Option, Some, None}
 use Rattle.layout_plan.specs.declared.part.Part.{Part}
 use Rattle.layout_plan.specs.declared.part.Fate.{Fate}
 use Rattle.layout_plan.specs.declared.part.Fate.TheVariants.{Kept, Resized, Ignored}
 use Rattle.layout_plan.specs.declared.wish.Wish.{Wish}
 use Rattle.layout_plan.specs.declared.wish.What.{What}
-use Rattle.layout_plan.specs.declared.wish.What.TheVariants.{Resize, Force, Delete, Ignore}
+use Rattle.layout_plan.specs.declared.wish.What.TheVariants.{Expand, Shrink, Resize, Force, Delete, Ignore}
+use Rattle.layout_plan.specs.declared.wish.Size.TheVariants.{Bytes}
 use Rattle.layout_plan.specs.Size.{wanted_sectors}
+
+-- whether a wish is that a part takes what the others leave over, or gives up what they lack
+abbrev pub is_flexible : What → Bool
+is_flexible Expand = true
+is_flexible Shrink = true
+is_flexible _ = false
+
+-- a wish, where the part that takes or gives up gets so many sectors
+abbrev pub settle_what : ℕ → What → What
+settle_what sectors Expand = Force (Bytes (512 * sectors))
+settle_what sectors Shrink = Force (Bytes (512 * sectors))
+settle_what sectors what = what
+
+abbrev pub settle : ℕ → Wish → Wish
+settle sectors wish = record { place = wish.place; part = wish.part; what = settle_what sectors wish.what }
+
+-- the wishes, where the part that takes or gives up gets so many sectors
+abbrev pub settled : ℕ → List Wish → List Wish
+settled sectors wishes = map (settle sectors) wishes
 
 -- the first wish that names the part of that number
 abbrev pub what_of : Option Wish → Option What
@@ -15,6 +35,15 @@ what_of (Some wish) = Some wish.what
 
 abbrev pub wish_of : List Wish → ℕ → Option What
 wish_of wishes number = what_of (find (λ (wish : Wish). wish.part == number) wishes)
+
+-- whether a part takes or gives up
+abbrev pub is_flexible_wish : Option What → Bool
+is_flexible_wish None = false
+is_flexible_wish (Some what) = is_flexible what
+
+-- the part that takes or gives up, if one does
+abbrev pub flexible_part : List Wish → List Part → Option Part
+flexible_part wishes parts = find (λ (part : Part). is_flexible_wish (wish_of wishes part.number)) parts
 
 -- the length that a wish asks for, where there were old sectors
 abbrev pub asked_length : Option What → ℕ → ℕ

@@ -3,7 +3,7 @@
 //! It promises upwards: [`plan`] gives a plan exactly where the layout of the parts fits the target. It says
 //! where each part comes to stand, and what is made of the sectors that are left over, or else why there is no
 //! plan. The partitions of a plan lie apart, behind the table and before the limit. So far it serves the slots
-//! of an MBR, and every wish but that a part takes what is left over or gives up what is lacking.
+//! of an MBR, with all wishes.
 //!
 //! It stands on disk_base alone, and touches no disk: a plan is a function of numbers. Lengths and places
 //! are in sectors of 512 bytes, unless a name says bytes.
@@ -12,6 +12,7 @@
 mod alignment;
 mod extra;
 mod fault;
+mod flexing;
 mod laying;
 mod part;
 mod places;

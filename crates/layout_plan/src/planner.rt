@@ -7,6 +7,7 @@ ghost use Rattle.layout_plan.specs.Tables.{least_disk, limit_of};
 
 use crate::extra::extra_part;
 use crate::fault::NoPlan;
+use crate::flexing::{flexed, settled};
 use crate::laying::lay;
 use crate::part::{Kind, Part};
 use crate::places::place;
@@ -42,7 +43,8 @@ fn limit(kind: Kind, sectors: u64) -> u64
 
 /// Where the parts, which stand by rising number, come to stand on a target of `sectors` sectors.
 ///
-/// Each part that isn't deleted gets the length that is wished, or keeps its own. They are laid out by rising
+/// Each part that isn't deleted gets the length that is wished, or keeps its own; one that takes or gives up gets
+/// the greatest with which the layout fits. They are laid out by rising
 /// start, the first one at the least start of all, or at the first multiple of the alignment where the layout
 /// asks for that, and each later one at the next multiple behind the one before it. Their numbers fall by the
 /// deleted parts of lower numbers.
@@ -52,7 +54,9 @@ fn limit(kind: Kind, sectors: u64) -> u64
 /// `TooSmall` is a target with no room for a table, `TooLarge` one of more than 2^31 sectors. `NoSuchPart` and
 /// `NamedTwice` are of the first wish that names no part or one that was named before, `Empty` and `WouldCut`
 /// of the first part whose length would be 0, or less than its content without force. `DoesNotFit` says where
-/// the last part would end. `Memory` may come at any call.
+/// the last part would end, where one that takes keeps its length and one that gives up has a sector alone.
+/// `NoSurplus` and `NoDeficit` say that nothing is left over to take, or lacking to give up. `Memory` may come
+/// at any call.
 pub fn plan(
     alloc: Global,
     kind: Kind,
@@ -82,14 +86,10 @@ pub fn plan(
     judge_wishes(parts, wishes)?;
     judge_lengths(wishes, parts)?;
     let rest = remaining(alloc, wishes, parts)?;
-    let laid = lay(alloc, kind, parts, &rest, wishes, layout)?;
-    if limit < laid.end {
-        return Err(NoPlan::DoesNotFit {
-            end: laid.end,
-            limit,
-        });
-    }
-    let placed = place(alloc, wishes, parts, &rest, &laid)?;
+    let length = flexed(alloc, kind, parts, &rest, wishes, layout, sectors, limit)?;
+    let settled = settled(alloc, length, wishes)?;
+    let laid = lay(alloc, kind, parts, &rest, &settled, layout)?;
+    let placed = place(alloc, &settled, parts, &rest, &laid)?;
     let extra = extra_part(kind, layout, &placed, laid.end, limit);
     Ok(Planned::new(placed, extra, limit))
 }

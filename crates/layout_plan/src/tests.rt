@@ -1,10 +1,10 @@
 //! Plans of small tables.
-ghost use Rattle.std.specs.Prelude.{◌≡◌, true};
+ghost use Rattle.std.specs.Prelude.{◌≡◌};
 ghost use Rattle.layout_plan.specs.declared.part.Role.TheVariants.{Slot};
-ghost use Rattle.layout_plan.specs.Served.{is_sized};
 
 use crate::{
-    Fate, Kind, Layout, NoPlan, Part, Placed, Role, Size, What, Wish, one_layout, one_plan, plan,
+    Fate, Kind, Layout, NoPlan, Part, Placed, Planned, Role, Size, What, Wish, one_layout,
+    one_plan, plan,
 };
 use std::alloc::{AllocError, Global};
 use std::test::Fail;
@@ -136,9 +136,7 @@ fn wished(
     alloc: Global,
     what: What,
     sectors: u64,
-) -> Result<(Option<Placed>, Option<NoPlan>), AllocError>
-    requires { is_sized what ≡ true }
-{
+) -> Result<(Option<Placed>, Option<NoPlan>), AllocError> {
     let parts = [slot(1, 2048, 20480)];
     let wish = Wish {
         place: 2,
@@ -198,6 +196,82 @@ fn refuses_lengths_that_can_not_be(rt: HostRuntime) -> Result<(), Fail> {
         limit: 26623,
     };
     assert_eq!(rt; long, (None, Some(too_long)));
+    Ok(())
+}
+
+#[test]
+fn takes_what_is_left_over(rt: HostRuntime) -> Result<(), Fail> {
+    let alloc = rt.alloc();
+    let taken = wished(alloc, What::Expand, 65537)?;
+    assert_eq!(rt; taken, resized(63489));
+    let none = wished(alloc, What::Expand, 22528)?;
+    assert_eq!(rt; none, (None, Some(NoPlan::NoSurplus { limit: 22528 })));
+    let too_long = NoPlan::DoesNotFit {
+        end: 22528,
+        limit: 22527,
+    };
+    let long = wished(alloc, What::Expand, 22527)?;
+    assert_eq!(rt; long, (None, Some(too_long)));
+    Ok(())
+}
+
+#[test]
+fn gives_up_what_is_lacking(rt: HostRuntime) -> Result<(), Fail> {
+    let alloc = rt.alloc();
+    let none = wished(alloc, What::Shrink, 22528)?;
+    assert_eq!(rt; none, (None, Some(NoPlan::NoDeficit { end: 22528 })));
+    let would_cut = NoPlan::WouldCut {
+        part: 1,
+        content: 20480,
+        wanted: 20479,
+    };
+    let cut = wished(alloc, What::Shrink, 22527)?;
+    assert_eq!(rt; cut, (None, Some(would_cut)));
+    let too_long = NoPlan::DoesNotFit {
+        end: 2049,
+        limit: 2048,
+    };
+    let long = wished(alloc, What::Shrink, 2048)?;
+    assert_eq!(rt; long, (None, Some(too_long)));
+    Ok(())
+}
+
+/// The plan of two slots where something is wished of the first, whose content needs ten sectors.
+fn two_slots(alloc: Global, what: What, sectors: u64) -> Result<Planned, NoPlan> {
+    let first = Part {
+        number: 1,
+        role: Role::Slot,
+        start: 2048,
+        count: 1000,
+        content: 10,
+    };
+    let wish = Wish {
+        place: 2,
+        part: 1,
+        what,
+    };
+    let parts = [first, slot(2, 4096, 100)];
+    plan(alloc, Kind::Mbr, &parts, &[wish], &LAYOUT, sectors)
+}
+
+// The parts behind the one that takes or gives up stand at multiples of the alignment.
+#[test]
+fn moves_the_parts_behind(rt: HostRuntime) -> Result<(), Fail> {
+    let planned = two_slots(rt.alloc(), What::Expand, 5000)?;
+    let longer = Placed {
+        fate: Fate::Resized,
+        ..kept(1, 1, 2048, 2816)
+    };
+    assert_eq!(rt; planned.parts(), [longer, kept(2, 2, 4864, 100)].as_slice());
+    let planned = two_slots(rt.alloc(), What::Shrink, 2500)?;
+    let shorter = Placed {
+        fate: Fate::Resized,
+        ..kept(1, 1, 2048, 256)
+    };
+    assert_eq!(rt;
+        planned.parts(),
+        [shorter, kept(2, 2, 2304, 100)].as_slice()
+    );
     Ok(())
 }
 

@@ -109,7 +109,6 @@ module _ (sectors : ℕ) (slots : List Slot) (sound : IsSound sectors slots) (fe
   pub parts_served : IsServed Mbr (parts_of slots) [] plain_layout
   parts_served = record {
     an_mbr = refl;
-    sized = λ k d within. absurd (omega arith);
     each = All-weaker (IsPartFrom 1 slots) IsServedPart served_part (parts_of slots) (parts_each 1 slots);
     by_number = parts_rising 1 slots;
     other_starts = λ i j d low high.

@@ -1,0 +1,194 @@
+-- That parts, places and what is made of them stand in one order alone.
+use Rattle.std.proofs.Common.{◌≡◌, ◌≢◌, ℕ, zero, suc, ◌<◌, ◌≤◌, ◌⊎◌, true, false, not, List, length, map, slice_index, slice_index_or, refl, sym, ◌∙◌, ap, subst, inl, inr, arith, AllPairs, IsPermutation, Contains, Option, Some, None}
+use Rattle.std.proofs.lemmas.Bool.{cases_Bool, cases_eq, cases_lt, cases_order}
+use Rattle.std.proofs.lemmas.Grind.{same_number_lists}
+use Rattle.std.proofs.lemmas.List.{get_or_default, length-map, same_lists}
+use Rattle.std.proofs.lemmas.List.Elements.{All-map, All-contains, Contains-get_or}
+use Rattle.std.proofs.lemmas.List.Sorted.{Contains-permutation, IsPermutation-sym, IsPermutation-trans, length_permutation}
+use Rattle.std.proofs.lemmas.List.Filters.{length-filter_both}
+use Rattle.layout_plan.specs.declared.part.Fate.{Fate}
+use Rattle.layout_plan.specs.declared.part.Kind.{Kind}
+use Rattle.layout_plan.specs.declared.part.Part.{Part}
+use Rattle.layout_plan.specs.declared.part.Placed.{Placed}
+use Rattle.layout_plan.specs.declared.part.Role.TheVariants.{Slot}
+use Rattle.layout_plan.specs.declared.wish.Layout.{Layout}
+use Rattle.layout_plan.specs.declared.wish.Wish.{Wish}
+use Rattle.layout_plan.specs.Layouts.{IsLayout}
+use Rattle.layout_plan.specs.Plans.{Begins, IsLeastStart, IsLaid, StandsAt, ArePlaced, IsLeastFree, IsExtra, IsExtraPart, is_taken}
+use Rattle.layout_plan.specs.Tables.{floor_of, most_numbers}
+use Rattle.layout_plan.specs.Wishes.{remaining, wanted, is_deleted}
+use Rattle.layout_plan.proofs.Lines.{one_at_most}
+use Rattle.layout_plan.proofs.Next.{next_unique}
+
+abbrev pub Rise : List Part → Type 0
+Rise xs = AllPairs (λ (before after : Part). before.start < after.start) xs
+
+-- values to read lists with
+pub any_part : Part
+any_part = record { number = 0; role = Slot; start = 0; count = 0; content = 0 }
+
+-- where two rising lists are the same up to k, an element that both have stands in the other at k or behind it
+no_earlier : (xs ys : List Part) → Rise xs → Rise ys → (k : ℕ) (d : Part)
+    → ((j : ℕ) (e : Part) → j < k → slice_index_or xs j e ≡ slice_index_or ys j e)
+    → k < length xs → k < length ys → Contains ys (slice_index_or xs k d)
+    → (slice_index_or xs k d ≡ slice_index_or ys k d) ⊎ ((slice_index_or ys k d).start < (slice_index_or xs k d).start)
+no_earlier xs ys rise other k d below in_xs in_ys there =
+    let x : Part = slice_index_or xs k d in
+    let m : ℕ = there.0 in
+    let within : m < length ys = there.1 in
+    let is : slice_index_or ys m d ≡ x = get_or_default ys m d x within ∙ there.2 in
+    let starts : (slice_index_or ys m d).start ≡ x.start = ap (λ (p : Part). p.start) is in
+    elim (cases_order m k) [
+      | inl same ↦ inl (sym is ∙ ap (λ (n : ℕ). slice_index_or ys n d) same)
+      | inr apart ↦ elim apart [
+        | inl early ↦
+            let less : (slice_index_or xs m d).start < (slice_index_or xs k d).start = rise m k d early in_xs in
+            let equal : (slice_index_or xs m d).start ≡ (slice_index_or ys m d).start = ap (λ (p : Part). p.start) (below m d early) in
+            absurd (omega arith)
+        | inr late ↦
+            let less : (slice_index_or ys k d).start < (slice_index_or ys m d).start = other k m d late within in
+            inr (omega arith)
+      ]
+    ]
+
+same_below : (xs ys : List Part) → Rise xs → Rise ys → length xs ≡ length ys
+    → ((k : ℕ) (d : Part) → k < length xs → Contains ys (slice_index_or xs k d))
+    → ((k : ℕ) (d : Part) → k < length ys → Contains xs (slice_index_or ys k d))
+    → (n : ℕ) → n ≤ length xs → (k : ℕ) (d : Part) → k < n → slice_index_or xs k d ≡ slice_index_or ys k d
+same_below xs ys rise other as_many there back zero within k d before = absurd (omega arith)
+same_below xs ys rise other as_many there back (suc n) within k d before =
+    elim (cases_lt k n) [
+      | inl less ↦ same_below xs ys rise other as_many there back n (omega arith) k d less
+      | inr more ↦
+          let is : k ≡ n = omega arith in
+          let in_xs : n < length xs = omega arith in
+          let in_ys : n < length ys = omega arith in
+          let low : n ≤ length xs = omega arith in
+          let same_n : slice_index_or xs n d ≡ slice_index_or ys n d =
+          elim (no_earlier xs ys rise other n d (λ j e less. same_below xs ys rise other as_many there back n low j e less) in_xs in_ys (there n d in_xs)) [
+            | inl same ↦ same
+            | inr below ↦
+                elim (no_earlier ys xs other rise n d (λ j e less. sym (same_below xs ys rise other as_many there back n low j e less)) in_ys in_xs (back n d in_ys)) [
+                  | inl same ↦ sym same
+                  | inr above ↦ absurd (omega arith)
+                ]
+          ] in
+          rw is same_n
+    ]
+
+pub one_order : (zs xs ys : List Part) → IsPermutation zs xs → IsPermutation zs ys → Rise xs → Rise ys → xs ≡ ys
+one_order zs xs ys to_xs to_ys rise other =
+    let over : IsPermutation xs ys = IsPermutation-trans xs zs ys (IsPermutation-sym zs xs to_xs) to_ys in
+    let back : IsPermutation ys xs = IsPermutation-sym xs ys over in
+    let as_many : length xs ≡ length ys = sym (length_permutation xs ys over) in
+    same_lists xs ys as_many
+    (λ k d within. same_below xs ys rise other as_many
+    (λ j e inside. Contains-permutation xs ys (slice_index_or xs j e) over (Contains-get_or xs j e inside))
+    (λ j e inside. Contains-permutation ys xs (slice_index_or ys j e) back (Contains-get_or ys j e inside))
+    (length xs) (omega arith) k d within)
+
+no_less : (parts : List Part) (a b : ℕ) → 0 < length parts → IsLeastStart parts a → IsLeastStart parts b → a ≤ b
+no_less parts a b some x y =
+    All-contains (λ (start : ℕ). a ≤ start) (map (λ (part : Part). part.start) parts) b
+    (All-map (λ (start : ℕ). a ≤ start) (λ (part : Part). part.start) parts x.below) (y.attained some)
+
+pub one_begin : (kind : Kind) (layout : Layout) (parts : List Part) (a b : ℕ) → 0 < length parts → Begins kind layout parts a → Begins kind layout parts b → a ≡ b
+one_begin kind layout parts a b some x y =
+    elim (cases_Bool layout.always) [
+      | inl always ↦ next_unique layout.align (floor_of kind) a b (x.aligned always) (y.aligned always)
+      | inr never ↦
+          let low : a ≤ b = no_less parts a b some (x.stays never) (y.stays never) in
+          let high : b ≤ a = no_less parts b a some (y.stays never) (x.stays never) in
+          omega arith
+    ]
+
+module _ (kind : Kind) (parts : List Part) (wishes : List Wish) (layout : Layout) where
+  pub some_part : (laid : List Part) → IsPermutation (remaining wishes parts) laid → length laid ≢ 0 → 0 < length parts
+  some_part laid same some = omega (arith, length_permutation (remaining wishes parts) laid same, length-filter_both (λ (part : Part). not (is_deleted wishes part)) (λ (part : Part). not (not (is_deleted wishes part))) (λ part. refl) parts)
+
+  pub one_line : (laid : List Part) (starts other : List ℕ) → IsLaid kind parts wishes layout laid starts → IsLaid kind parts wishes layout laid other → starts ≡ other
+  one_line laid starts other x y =
+      let long : length starts ≡ length (map (wanted wishes) laid) = x.stand.as_many in
+      let as_long : length other ≡ length (map (wanted wishes) laid) = y.stand.as_many in
+      elim (cases_eq (length laid) 0) [
+        | inl none ↦ same_number_lists starts other (long ∙ sym as_long) (λ k within. absurd (omega (arith, length-map laid (wanted wishes))))
+        | inr some ↦
+            let same : x.begin ≡ y.begin = one_begin kind layout parts x.begin y.begin (some_part laid x.the_remaining some) x.begins y.begins in
+            let P : ℕ → Type 0 = λ begin. IsLayout layout.align begin (map (wanted wishes) laid) starts in
+            one_at_most layout.align y.begin (map (wanted wishes) laid) starts other (subst P same x.stand) y.stand
+      ]
+
+pub one_place : (laid : List Part) → Rise laid → (part : Part) (i j : ℕ) → i < length laid → j < length laid
+    → slice_index_or laid i part ≡ part → slice_index_or laid j part ≡ part → i ≡ j
+one_place laid rise part i j in_i in_j is_i is_j =
+    let start_i : (slice_index_or laid i part).start ≡ part.start = ap (λ (p : Part). p.start) is_i in
+    let start_j : (slice_index_or laid j part).start ≡ part.start = ap (λ (p : Part). p.start) is_j in
+    elim (cases_order i j) [
+      | inl same ↦ same
+      | inr apart ↦ elim apart [
+        | inl before ↦ let less = rise i j part before in_j in absurd (omega arith)
+        | inr after ↦ let less = rise j i part after in_i in absurd (omega arith)
+      ]
+    ]
+
+abbrev placed_of : ℕ → ℕ → ℕ → ℕ → ℕ → Fate → Placed
+placed_of from number ebr start count fate = record { from = from; number = number; ebr = ebr; start = start; count = count; fate = fate }
+
+pub same_placed : (p q : Placed) → p.from ≡ q.from → p.number ≡ q.number → p.ebr ≡ q.ebr → p.start ≡ q.start → p.count ≡ q.count → p.fate ≡ q.fate → p ≡ q
+same_placed p q a b c d e f =
+    let made : placed_of p.from p.number p.ebr p.start p.count p.fate ≡ placed_of q.from q.number q.ebr q.start q.count q.fate = rw (a, b, c, d, e, f) in made
+
+one_start : (laid : List Part) (starts : List ℕ) → Rise laid → (part : Part) (a b : ℕ) → StandsAt laid starts part a → StandsAt laid starts part b → a ≡ b
+one_start laid starts rise part a b x y =
+    let places : x.place ≡ y.place = one_place laid rise part x.place y.place x.within y.within x.is_part y.is_part in
+    x.there ∙ ap (slice_index starts) places ∙ sym y.there
+
+pub one_made : (wishes : List Wish) (parts laid : List Part) (starts : List ℕ) (placed other : List Placed) → Rise laid
+    → ArePlaced wishes parts laid starts placed → ArePlaced wishes parts laid starts other → placed ≡ other
+one_made wishes parts laid starts placed other rise x y =
+    same_lists placed other (x.as_many ∙ sym y.as_many) (λ k d within.
+    let p = x.each k any_part d within in
+    let q = y.each k any_part d (omega (arith, x.as_many, y.as_many)) in
+    same_placed (slice_index_or placed k d) (slice_index_or other k d)
+    (p.from ∙ sym q.from) (p.number ∙ sym q.number) (p.no_boot_record ∙ sym q.no_boot_record)
+    (one_start laid starts rise _ _ _ p.stands q.stands)
+    (p.count ∙ sym q.count) (p.fate ∙ sym q.fate))
+
+no_lower_free : (most : ℕ) (placed : List Placed) (a b : ℕ) → IsLeastFree most placed a → IsLeastFree most placed b → a < b → ⊥
+no_lower_free most placed a b x y low =
+    let taken : is_taken placed a ≡ true = y.least a x.from_one low in
+    let free : is_taken placed a ≡ false = x.free in
+    cc
+
+one_free : (most : ℕ) (placed : List Placed) (a b : ℕ) → IsLeastFree most placed a → IsLeastFree most placed b → a ≡ b
+one_free most placed a b x y =
+    let low : a < b → ⊥ = no_lower_free most placed a b x y in
+    let high : b < a → ⊥ = no_lower_free most placed b a y x in
+    omega arith
+
+some_or_none : (kind : Kind) (layout : Layout) (last : ℕ) (placed : List Placed) (limit : ℕ) (one : Placed)
+    → IsExtra kind layout last placed limit None → IsExtraPart kind layout last placed limit one → ⊥
+some_or_none kind layout last placed limit one none some =
+    elim none [
+      | inl unasked ↦ let asked : layout.extra ≡ true = some.asked in cc
+      | inr rest ↦ elim rest [
+        | inl cramped ↦
+            let same : cramped.start ≡ one.start = next_unique layout.align last cramped.start one.start cramped.behind some.behind in
+            omega (arith, cramped.too_little, some.to_limit, some.enough)
+        | inr all_taken ↦
+            let taken : is_taken placed one.number ≡ true = all_taken one.number some.number.from_one some.number.up_to_most in
+            let free : is_taken placed one.number ≡ false = some.number.free in
+            cc
+      ]
+    ]
+
+pub one_extra : (kind : Kind) (layout : Layout) (last : ℕ) (placed : List Placed) (limit : ℕ) (a b : Option Placed)
+    → IsExtra kind layout last placed limit a → IsExtra kind layout last placed limit b → a ≡ b
+one_extra kind layout last placed limit None None x y = refl
+one_extra kind layout last placed limit None (Some b) x y = absurd (some_or_none kind layout last placed limit b x y)
+one_extra kind layout last placed limit (Some a) None x y = absurd (some_or_none kind layout last placed limit a y x)
+one_extra kind layout last placed limit (Some a) (Some b) x y =
+    let start : a.start ≡ b.start = next_unique layout.align last a.start b.start x.behind y.behind in
+    let count : a.count ≡ b.count = omega (arith, x.to_limit, y.to_limit) in
+    ap Some (same_placed a b (x.from_none ∙ sym y.from_none) (one_free (most_numbers kind) placed a.number b.number x.number y.number)
+    (x.no_boot_record ∙ sym y.no_boot_record) start count (x.kept ∙ sym y.kept))
