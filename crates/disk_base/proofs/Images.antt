@@ -1,9 +1,9 @@
 -- Facts about ranges of a disk and writes to it. A place is a variable with an equation, since `512 * (a + b)` and
 -- `512 * a + 512 * b` never match by computing.
-use Rattle.std.proofs.Common.{rules, ◌≡◌, ℕ, ◌+◌, ◌-◌, ◌*◌, ◌<◌, ◌≤◌, List, [], ◌++◌, length, take, drop, slice_index, arith, refl, append-nil, add-zero, ◌∙◌, sym, ap, get_or, min, length-take, length-drop, ◌⊎◌, inl, inr}
+use Rattle.std.proofs.Common.{rules, ◌≡◌, ℕ, ◌+◌, ◌-◌, ◌*◌, ◌<◌, ◌≤◌, List, [], ◌++◌, length, slice_index, arith, refl, append-nil, add-zero, ◌∙◌, sym, ap, min, length-take, length-drop, ◌⊎◌, inl, inr}
 use Rattle.std.proofs.lemmas.Grind.{same_number_lists}
 use Rattle.std.proofs.lemmas.List.{same_lists, places, take-append-drop}
-use Rattle.disk_base.specs.Image.{bytes_at, with_bytes, sector, AgreesOutside, OldOrNew, HalfWritten}
+use Rattle.disk_base.specs.Image.{bytes_at, with_bytes, sector, AgreesOutside}
 
 -- how long a range and a written disk are
 pub length-bytes_at : (image : List ℕ) (from n : ℕ) → from + n ≤ length image → length (bytes_at image from n) ≡ n

@@ -1,3 +1,6 @@
 pub mod Checksums
 pub mod Images
+pub mod Moments
 pub mod Polynomials
+pub mod Replaying
+pub mod Stoppings

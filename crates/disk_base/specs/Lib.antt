@@ -4,3 +4,7 @@ pub mod Image
 pub mod Log
 pub mod Memory
 pub mod MemoryText
+pub mod Past
+pub mod Replays
+pub mod Stopped
+pub mod Stops

@@ -1,5 +1,5 @@
 -- A sink in memory, and exactly when its calls fail.
-use Rattle.std.specs.Prelude.{◌≡◌, ℕ, ◌+◌, List, [], ◌++◌, length, Bool, ◌==◌, nat_lt, ◌||◌}
+use Rattle.std.specs.Prelude.{ℕ, ◌+◌, List, [], ◌++◌, length, Bool, ◌==◌, nat_lt, ◌||◌}
 use Rattle.std.specs.List.{list_any}
 use Rattle.disk_base.specs.declared.memory_sink.MemSink.{MemSink}
 use Rattle.disk_base.specs.Faults.{counted}

@@ -86,10 +86,16 @@ pub trait Blocks {
 /// A disk that can be attached by name, written, given up in runs of sectors, and flushed.
 ///
 /// `log` is its book-keeping, known where the disk tells what it holds; `attached` is the mode by which
-/// it is attached, if it is, and `discards` whether it can give sectors up.
+/// it is attached, if it is, and `discards` whether it can give sectors up. `stops` is what a stop leaves,
+/// now and since an earlier moment; clauses on it hold where `tells_stops` says that contracts know it.
 pub trait Disk: Blocks {
     ghost use Rattle.disk_base.specs.declared.device.Mode.{Mode};
     ghost use Rattle.disk_base.specs.Log.{Log, Asked, IsWritable, Keeps, IsBlank, HasSectors, written, gave_up};
+    ghost use Rattle.disk_base.specs.Stops.{Stops, AreOf, IsSettled, Adds, Follows, Remembers, Waits, Stays, Settles};
+
+    ghost tells_stops: { Bool };
+
+    ghost stops: { Self → Stops };
 
     ghost log: { Self → Log };
 
@@ -106,6 +112,8 @@ pub trait Disk: Blocks {
         ensures held { IsTrue Self.tells → Keeps mode (Self.image self.old) (Self.image self.new) }
         ensures blank { IsTrue Self.tells → OnOk result (IsBlank mode (Self.image self.new)) }
         ensures created { OnOk result (HasSectors mode (Self.size self.new)) }
+        ensures stays { IsTrue tells_stops → Stays mode (stops self.old) (stops self.new) }
+        ensures settles { IsTrue tells_stops → OnOk result (Settles mode (Self.image self.new) (stops self.new)) }
         ensures discards { discards self.new ≡ discards self.old }
         ensures cause { HasCause (Self.faults self.old) (Self.faults self.new) result };
 
@@ -118,6 +126,8 @@ pub trait Disk: Blocks {
         ensures written { IsTrue Self.tells → OnOk result (Self.image self.new ≡ with_bytes (Self.image self.old) (512 * at) bytes.now) }
         ensures half { IsTrue Self.tells → OnErr result (HalfWritten at bytes.now (Self.image self.old) (Self.image self.new)) }
         ensures log { IsTrue Self.tells → log self.new ≡ written (log self.old) }
+        ensures stops { IsTrue tells_stops → Follows (HalfWritten at bytes.now) (stops self.old) (stops self.new) }
+        ensures remembers { IsTrue tells_stops → Remembers (stops self.old) (stops self.new) }
         ensures size { Self.size self.new ≡ Self.size self.old }
         ensures mode { attached self.new ≡ attached self.old }
         ensures discards { discards self.new ≡ discards self.old }
@@ -133,15 +143,22 @@ pub trait Disk: Blocks {
         ensures others { IsTrue Self.tells → AgreesOutside (512 * at) (512 * n) (Self.image self.old) (Self.image self.new) }
         ensures given_up { IsTrue Self.tells → OnOk result (log self.new ≡ gave_up (log self.old) at n) }
         ensures not_given_up { IsTrue Self.tells → OnErr result (log self.new ≡ log self.old) }
+        ensures stops { IsTrue tells_stops → Follows (AgreesOutside (512 * at) (512 * n)) (stops self.old) (stops self.new) }
+        ensures remembers { IsTrue tells_stops → Remembers (stops self.old) (stops self.new) }
         ensures size { Self.size self.new ≡ Self.size self.old }
         ensures mode { attached self.new ≡ attached self.old }
         ensures discards { discards self.new ≡ discards self.old }
         ensures cause { HasCause (Self.faults self.old) (Self.faults self.new) result };
 
-    /// Makes all that came before lasting.
+    /// Makes all that came before lasting: after `Ok` a stop leaves what the disk holds. After `Failed`
+    /// nothing more is lasting than before.
     fn flush(&mut self) -> Result<(), Failed>
         ensures held { IsTrue Self.tells → Self.image self.new ≡ Self.image self.old }
         ensures log { IsTrue Self.tells → log self.new ≡ log self.old }
+        ensures settled { IsTrue tells_stops → OnOk result (IsSettled (Self.image self.new) (stops self.new)) }
+        ensures waits { IsTrue tells_stops → OnErr result (Waits (stops self.old) (stops self.new)) }
+        ensures stops { IsTrue tells_stops → Adds (λ c. ⊥) (stops self.old) (stops self.new) }
+        ensures remembers { IsTrue tells_stops → Remembers (stops self.old) (stops self.new) }
         ensures size { Self.size self.new ≡ Self.size self.old }
         ensures mode { attached self.new ≡ attached self.old }
         ensures discards { discards self.new ≡ discards self.old }
@@ -156,6 +173,12 @@ pub trait Disk: Blocks {
     ghost same_mode: { (a b : Self) → Self.only_read a b → attached b ≡ attached a };
 
     ghost same_discards: { (a b : Self) → Self.only_read a b → discards b ≡ discards a };
+
+    ghost read_stops: { (a b : Self) → Self.only_read a b → IsTrue tells_stops → Waits (stops a) (stops b) };
+
+    ghost stops_are: { (d : Self) → IsTrue tells_stops → AreOf (Self.image d) (stops d) };
+
+    ghost stops_told: { IsTrue tells_stops → IsTrue Self.tells };
 
     ghost empty: { (d : Self) → Self.tells ≡ false → attached d ≡ None → Self.size d ≡ 0 };
 }

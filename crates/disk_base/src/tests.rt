@@ -152,6 +152,50 @@ fn a_disk_is_created_within_its_room(rt: HostRuntime) -> Result<(), Fail> {
     Ok(())
 }
 
+// The first bytes of the sectors of the image that a stop inside that call leaves.
+fn first_bytes(
+    alloc: Global,
+    disk: &MemDisk,
+    call: u64,
+    keep: u64,
+) -> Result<[Option<u8>; 3], AllocError> {
+    if !disk.has_stops(call) {
+        return Ok([None; 3]);
+    }
+    let image = disk.stopped(alloc, call, keep, 0x5A)?;
+    Ok([
+        image.get(0).copied(),
+        image.get(512).copied(),
+        image.get(1024).copied(),
+    ])
+}
+
+#[test]
+fn a_stop_leaves_what_was_lasting_and_the_first_sectors_since(rt: HostRuntime) -> Result<(), Fail> {
+    let alloc = rt.alloc();
+    let image = vec![in alloc; 1u8; 1536]?;
+    let mut disk = MemDisk::new(alloc, NAME, image, ample(), [5].to_vec(alloc)?)?;
+    let done = five_calls(&mut disk, NAME);
+    assert_eq!(rt; done, [true; 5]);
+    assert_eq!(rt; disk.attach(b"b.img", Mode::Read), Err(Failed));
+    let rows: [(u64, u64, [u8; 3]); 9] = [
+        (0, 9, [1, 1, 1]),
+        (1, 0, [1, 1, 1]),
+        (1, 1, [1, 7, 1]),
+        (1, 2, [1, 7, 7]),
+        (2, 1, [1, 7, 1]),
+        (3, 2, [1, 7, 7]),
+        (3, 3, [1, 7, 0x5A]),
+        (4, 1, [1, 7, 1]),
+        (5, 0, [1, 7, 0xA5]),
+    ];
+    for (call, keep, bytes) in rows {
+        let want = [Some(bytes[0]), Some(bytes[1]), Some(bytes[2])];
+        assert_eq!(rt; first_bytes(alloc, &disk, call, keep)?, want, "call {call}, keep {keep}");
+    }
+    Ok(())
+}
+
 #[test]
 fn a_sink_fails_where_it_is_told_to(rt: HostRuntime) -> Result<(), Fail> {
     let alloc = rt.alloc();

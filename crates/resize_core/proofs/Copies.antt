@@ -16,7 +16,7 @@ agrees_written image new from n bytes is long fits =
     subst Agrees (sym is) (agrees_with_bytes image from n bytes long fits)
 
 -- what a loop over the target keeps: the source is only read, so much is done, and the target is as it is said to be
-pub record Goes (reads within_count was_copied agrees asks size mode later : Type 0) : Type 0 where
+pub record Goes (reads within_count was_copied agrees asks size mode later stops : Type 0) : Type 0 where
   pub read : reads
   pub bound : within_count
   pub copied : was_copied
@@ -25,6 +25,7 @@ pub record Goes (reads within_count was_copied agrees asks size mode later : Typ
   pub same_size : size
   pub same_mode : mode
   pub no_fewer : later
+  pub may_leave : stops
 
 -- asks that stay, and stay on, stay
 pub same_asks_on : (a b c : Log) → SameAsks a b → SameAsks b c → SameAsks a c
@@ -139,3 +140,22 @@ begun_within ts n e old mid new some made begun = record {
   same_length = begun.same_length ∙ made.same_length;
   others = λ k outside. begun_outside (slice_index_or ts n e) mid new begun k (outside n e some) ∙ made.others k outside;
 }
+
+-- what was begun of a transfer changed nothing outside of all transfers
+pub run_within : (ts : List Transfer) (n : ℕ) (e : Transfer) (old new : List ℕ) → n < length ts
+    → AgreesOutside (512 * (slice_index_or ts n e).to) (512 * (slice_index_or ts n e).count) old new → OnlyWithin ts old new
+run_within ts n e old new some begun = record {
+  same_length = begun.same_length;
+  others = λ k outside. begun_outside (slice_index_or ts n e) old new begun k (outside n e some);
+}
+
+pub only_within_on : (ts : List Transfer) (a b c : List ℕ) → OnlyWithin ts a b → OnlyWithin ts b c → OnlyWithin ts a c
+only_within_on ts a b c r s = record { same_length = s.same_length ∙ r.same_length; others = λ k outside. s.others k outside ∙ r.others k outside }
+
+pub only_within_here : (ts : List Transfer) (a : List ℕ) → OnlyWithin ts a a
+only_within_here ts a = record { same_length = refl; others = λ k outside. refl }
+
+-- agreement outside a range is agreement outside a greater one
+pub agrees_wider : (from n at m : ℕ) (old new : List ℕ) → at ≤ from → from + n ≤ at + m → AgreesOutside from n old new → AgreesOutside at m old new
+agrees_wider from n at m old new low high agrees =
+    record { same_length = agrees.same_length; before = λ i h. agrees.before i (omega arith); after = λ i h. agrees.after i (omega arith) }

@@ -4,3 +4,4 @@ pub mod Found
 pub mod PartsLemmas
 pub mod Placing
 pub mod ReadBack
+pub mod Stopping

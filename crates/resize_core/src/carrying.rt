@@ -1,8 +1,9 @@
 //! Carrying out the work, in its order of writes.
 ghost use Rattle.std.specs.Prelude.{◌≡◌, ℕ, ◌-◌, ◌*◌, ◌<◌, ◌≤◌, length, replicate, IsTrue, OnOk, OnErr, IfErr};
 ghost use Rattle.disk_base.specs.Faults.{Rose};
-ghost use Rattle.disk_base.specs.Image.{with_bytes};
+ghost use Rattle.disk_base.specs.Image.{with_bytes, HalfWritten};
 ghost use Rattle.disk_base.specs.Log.{IsWritable};
+ghost use Rattle.disk_base.specs.Stops.{IsSettled, Adds, Follows, LeavesOnly};
 ghost use Rattle.resize_core.specs.Finished.{IsFinished, LeavesNoTable};
 ghost use Rattle.resize_core.specs.Ready.{IsDone, IsAtGate};
 ghost use Rattle.resize_core.specs.Transfers.{SameAsks, CauseOf, OldOrWith};
@@ -18,6 +19,8 @@ fn clear_table<T: Disk>(target: &mut T) -> Result<(), Failed>
     requires writable { IsWritable (T.attached target.old) }
     ensures wrote { IsTrue T.tells → OnOk result (T.image target.new ≡ with_bytes (T.image target.old) 0 (replicate 512 0)) }
     ensures half { IsTrue T.tells → OnErr result (OldOrWith 0 (replicate 512 0) (T.image target.old) (T.image target.new)) }
+    ensures stops { IsTrue T.tells_stops → Follows (HalfWritten 0 (replicate 512 0)) (T.stops target.old) (T.stops target.new) }
+    ensures settled { IsTrue T.tells_stops → OnOk result (IsSettled (T.image target.new) (T.stops target.new)) }
     ensures asks { IsTrue T.tells → SameAsks (T.log target.old) (T.log target.new) }
     ensures size { T.size target.new ≡ T.size target.old }
     ensures mode { T.attached target.new ≡ T.attached target.old }
@@ -36,6 +39,8 @@ fn put_table<T: Disk>(target: &mut T, table: &[u8; 512]) -> Result<(), Failed>
     requires writable { IsWritable (T.attached target.old) }
     ensures wrote { IsTrue T.tells → OnOk result (T.image target.new ≡ with_bytes (T.image target.old) 0 table.now) }
     ensures half { IsTrue T.tells → OnErr result (OldOrWith 0 table.now (T.image target.old) (T.image target.new)) }
+    ensures stops { IsTrue T.tells_stops → Adds (HalfWritten 0 table.now (T.image target.old)) (T.stops target.old) (T.stops target.new) }
+    ensures settled { IsTrue T.tells_stops → OnOk result (IsSettled (T.image target.new) (T.stops target.new)) }
     ensures sector { length table.now ≡ 512 }
     ensures asks { IsTrue T.tells → SameAsks (T.log target.old) (T.log target.new) }
     ensures size { T.size target.new ≡ T.size target.old }
@@ -66,6 +71,11 @@ pub fn carry_out<S: Blocks, T: Disk>(
     ensures finished { IsTrue S.tells → IsTrue T.tells → OnOk result (IsDone ready.now (S.image source.old) (T.image target.old) (T.image target.new)) }
     ensures no_table { IsTrue T.tells → IfErr result (LeavesNoTable (T.image target.new)) }
     ensures gate { IsTrue S.tells → IsTrue T.tells → OnErr result (IsAtGate ready.now (S.image source.old) (T.image target.old) (T.image target.new)) }
+
+    // A stop at any moment leaves the target as it was, without a table, or finished; after Ok it leaves
+    // what the target holds.
+    ensures moments { IsTrue S.tells → IsTrue T.tells_stops → IsSettled (T.image target.old) (T.stops target.old) → LeavesOnly (IsAtGate ready.now (S.image source.old) (T.image target.old)) (T.stops target.old) (T.stops target.new) }
+    ensures settled { IsTrue T.tells_stops → OnOk result (IsSettled (T.image target.new) (T.stops target.new)) }
     ensures asks { IsTrue T.tells → SameAsks (T.log target.old) (T.log target.new) }
     ensures size { T.size target.new ≡ T.size target.old }
     ensures mode { T.attached target.new ≡ T.attached target.old }

@@ -3,6 +3,7 @@ ghost use Rattle.std.specs.Prelude.{◌≡◌, ℕ, ◌+◌, ◌*◌, ◌%◌, �
 ghost use Rattle.disk_base.specs.Faults.{Rose};
 ghost use Rattle.disk_base.specs.Image.{bytes_at, with_bytes, AgreesOutside};
 ghost use Rattle.disk_base.specs.Log.{IsWritable};
+ghost use Rattle.disk_base.specs.Stops.{Follows};
 ghost use Rattle.resize_core.specs.Transfers.{IsCopied, AreCopied, OnlyWithin, WriteApart, IsBetween, SameAsks, CauseOf};
 
 use crate::transfer::Transfer;
@@ -26,6 +27,7 @@ fn copy_piece<S: Blocks, T: Disk>(
     ensures read { S.only_read source.old source.new }
     ensures copied { IsTrue S.tells → IsTrue T.tells → OnOk result (T.image target.new ≡ with_bytes (T.image target.old) (512 * to) (bytes_at (S.image source.old) (512 * from) (length piece.old))) }
     ensures others { IsTrue T.tells → AgreesOutside (512 * to) (length piece.old) (T.image target.old) (T.image target.new) }
+    ensures stops { IsTrue T.tells_stops → Follows (AgreesOutside (512 * to) (length piece.old)) (T.stops target.old) (T.stops target.new) }
     ensures asks { IsTrue T.tells → SameAsks (T.log target.old) (T.log target.new) }
     ensures size { T.size target.new ≡ T.size target.old }
     ensures mode { T.attached target.new ≡ T.attached target.old }
@@ -53,6 +55,7 @@ fn copy_next<S: Blocks, T: Disk>(
     ensures progress { IfOk result (λ n. (0 < n) × (done + n ≤ transfer.now.count)) }
     ensures copied { IsTrue S.tells → IsTrue T.tells → IfOk result (λ n. T.image target.new ≡ with_bytes (T.image target.old) (512 * (transfer.now.to + done)) (bytes_at (S.image source.old) (512 * (transfer.now.from + done)) (512 * n))) }
     ensures within { IsTrue T.tells → AgreesOutside (512 * transfer.now.to) (512 * transfer.now.count) (T.image target.old) (T.image target.new) }
+    ensures stops { IsTrue T.tells_stops → Follows (AgreesOutside (512 * transfer.now.to) (512 * transfer.now.count)) (T.stops target.old) (T.stops target.new) }
     ensures asks { IsTrue T.tells → SameAsks (T.log target.old) (T.log target.new) }
     ensures size { T.size target.new ≡ T.size target.old }
     ensures mode { T.attached target.new ≡ T.attached target.old }
@@ -79,6 +82,7 @@ pub(crate) fn copy_run<S: Blocks, T: Disk>(
     ensures read { S.only_read source.old source.new }
     ensures copied { IsTrue S.tells → IsTrue T.tells → OnOk result (IsCopied transfer.now transfer.now.count (S.image source.old) (T.image target.old) (T.image target.new)) }
     ensures within { IsTrue T.tells → AgreesOutside (512 * transfer.now.to) (512 * transfer.now.count) (T.image target.old) (T.image target.new) }
+    ensures stops { IsTrue T.tells_stops → Follows (AgreesOutside (512 * transfer.now.to) (512 * transfer.now.count)) (T.stops target.old) (T.stops target.new) }
     ensures asks { IsTrue T.tells → SameAsks (T.log target.old) (T.log target.new) }
     ensures size { T.size target.new ≡ T.size target.old }
     ensures mode { T.attached target.new ≡ T.attached target.old }
@@ -106,6 +110,7 @@ pub(crate) fn copy_all<S: Blocks, T: Disk>(
     ensures read { S.only_read source.old source.new }
     ensures copied { IsTrue S.tells → IsTrue T.tells → OnOk result (AreCopied transfers.now (length transfers.now) (S.image source.old) (T.image target.old) (T.image target.new)) }
     ensures within { IsTrue T.tells → OnlyWithin transfers.now (T.image target.old) (T.image target.new) }
+    ensures stops { IsTrue T.tells_stops → Follows (OnlyWithin transfers.now) (T.stops target.old) (T.stops target.new) }
     ensures asks { IsTrue T.tells → SameAsks (T.log target.old) (T.log target.new) }
     ensures size { T.size target.new ≡ T.size target.old }
     ensures mode { T.attached target.new ≡ T.attached target.old }

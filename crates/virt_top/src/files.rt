@@ -221,7 +221,13 @@ impl<'a, R: Files<File = File>> Blocks for FileDisk<'a, R> {
 
 impl<'a, R: Files<File = File>> Disk for FileDisk<'a, R> {
     ghost use Rattle.disk_base.specs.Log.{fresh};
+    ghost use Rattle.disk_base.specs.Stops.{untold, waits_refl};
+    ghost use Rattle.std.proofs.lemmas.Bool.{false≢true};
     ghost use Rattle.std.specs.Prelude.{refl};
+
+    ghost tells_stops = { false };
+
+    ghost stops = { λ _. untold };
 
     ghost log = { λ _. fresh [] };
 
@@ -277,6 +283,12 @@ impl<'a, R: Files<File = File>> Disk for FileDisk<'a, R> {
     ghost same_mode = { λ a b r. r.attached };
 
     ghost same_discards = { λ a b r. refl };
+
+    ghost read_stops = { λ a b r t. waits_refl untold };
+
+    ghost stops_are = { λ d t. absurd (false≢true t) };
+
+    ghost stops_told = { λ t. t };
 
     ghost empty = { λ d t. d.idle };
 }

@@ -2,8 +2,9 @@
 use Rattle.std.proofs.Common.{◌≡◌, ◌≤◌, ◌^◌, List, ℕ, arith, ◌∙◌, subst, slice_index_or}
 use Rattle.std.proofs.lemmas.List.Elements.{All-get_or}
 use Rattle.resize_core.specs.declared.transfer.Transfer.{Transfer}
-use Rattle.resize_core.specs.Transfers.{IsBetween, IsCopied}
-use Rattle.resize_core.proofs.Copies.{nothing, transfer_more, begun_within, same_asks_on}
+use Rattle.resize_core.specs.Transfers.{IsBetween, IsCopied, OnlyWithin}
+use Rattle.disk_base.proofs.Moments.{follows_on, follows_weaker}
+use Rattle.resize_core.proofs.Copies.{nothing, transfer_more, begun_within, run_within, only_within_on, same_asks_on}
 use Rattle.resize_core.proofs.copying.copy_all.Goals as goal
 
 pub copy_run-requires-clause-between : goal.copy_run-requires-clause-between
@@ -41,4 +42,16 @@ loop-transfer-preserved g c =
       same_size = now.size ∙ before.same_size;
       same_mode = now.mode ∙ before.same_mode;
       no_fewer = omega (arith, now.later);
+      may_leave = λ t.
+          follows_on _ _ _ _ _ (OnlyWithin c.args.transfers.now) (only_within_on c.args.transfers.now)
+          (g.met.T.Disk.stops_are c.args.target.now t) (g.met.T.Disk.stops_are c.loop-transfer.target t) (before.may_leave t)
+          (follows_weaker _ _ _ (OnlyWithin c.args.transfers.now)
+          (λ x y. run_within c.args.transfers.now c.loop-transfer.transfer-index nothing x y (omega arith)) (now.stops t));
     }
+
+pub returns-in_err-copy_run-clause-stops : goal.returns-in_err-copy_run-clause-stops
+returns-in_err-copy_run-clause-stops g c = λ t.
+    follows_on _ _ _ _ _ (OnlyWithin c.args.transfers.now) (only_within_on c.args.transfers.now)
+    (g.met.T.Disk.stops_are c.args.target.now t) (g.met.T.Disk.stops_are c.loop-transfer.target t) (c.loop-transfer.invariant.may_leave t)
+    (follows_weaker _ _ _ (OnlyWithin c.args.transfers.now)
+    (λ x y. run_within c.args.transfers.now c.loop-transfer.transfer-index nothing x y (omega arith)) (c.in_err-copy_run.ensures.stops t))

@@ -1,5 +1,6 @@
 -- The transfers so far were made, and nothing else was changed.
 use Rattle.std.proofs.Common.{◌≡◌, ◌≤◌, IsTrue, length}
+use Rattle.disk_base.specs.Stops.{Follows}
 use Rattle.resize_core.specs.Transfers.{AreCopied, OnlyWithin, SameAsks}
 use Rattle.resize_core.proofs.Copies.{Goes}
 use Rattle.resize_core.proofs.copying.copy_all.Given as goal
@@ -13,3 +14,4 @@ invariant-loop-transfer g l =
     (g.T.Blocks.size l.target ≡ g.T.Blocks.size l.initial.target)
     (g.T.Disk.attached l.target ≡ g.T.Disk.attached l.initial.target)
     (g.T.Blocks.faults l.initial.target ≤ g.T.Blocks.faults l.target)
+    (IsTrue g.T.Disk.tells_stops → Follows (OnlyWithin l.transfers) (g.T.Disk.stops l.initial.target) (g.T.Disk.stops l.target))

@@ -1,7 +1,8 @@
 -- One more piece: what it wrote goes to the invariant by `piece_more`.
 use Rattle.std.proofs.Common.{ℕ, ◌+◌, ◌*◌, List, arith, ap, ◌∙◌}
-use Rattle.disk_base.specs.Image.{bytes_at, with_bytes}
+use Rattle.disk_base.specs.Image.{bytes_at, with_bytes, AgreesOutside}
 use Rattle.disk_base.proofs.Images.{agrees_on}
+use Rattle.disk_base.proofs.Moments.{follows_on}
 use Rattle.resize_core.proofs.Copies.{piece_more, same_asks_on}
 use Rattle.resize_core.proofs.copying.copy_run.Goals as goal
 
@@ -27,4 +28,12 @@ loop-done-preserved g c =
       same_size = now.size ∙ before.same_size;
       same_mode = now.mode ∙ before.same_mode;
       no_fewer = omega (arith, now.later);
+      may_leave = λ t.
+          follows_on _ _ _ _ _ (AgreesOutside (512 * c.args.transfer.now.to) (512 * c.args.transfer.now.count)) (λ x y z. agrees_on _ _ x y z)
+          (g.met.T.Disk.stops_are c.args.target.now t) (g.met.T.Disk.stops_are c.loop-done.target t) (before.may_leave t) (now.stops t);
     }
+
+pub returns-in_err-done-clause-stops : goal.returns-in_err-done-clause-stops
+returns-in_err-done-clause-stops g c = λ t.
+    follows_on _ _ _ _ _ (AgreesOutside (512 * c.args.transfer.now.to) (512 * c.args.transfer.now.count)) (λ x y z. agrees_on _ _ x y z)
+    (g.met.T.Disk.stops_are c.args.target.now t) (g.met.T.Disk.stops_are c.loop-done.target t) (c.loop-done.invariant.may_leave t) (c.copy_next.ensures.stops t)

@@ -1,6 +1,7 @@
 -- The sectors so far were copied, and nothing else was changed.
 use Rattle.std.proofs.Common.{◌-◌, ◌≡◌, ◌*◌, ◌≤◌, IsTrue}
 use Rattle.disk_base.specs.Image.{AgreesOutside}
+use Rattle.disk_base.specs.Stops.{Follows}
 use Rattle.resize_core.specs.Transfers.{IsCopied, SameAsks}
 use Rattle.resize_core.proofs.Copies.{Goes}
 use Rattle.resize_core.proofs.copying.copy_run.Given as goal
@@ -14,6 +15,7 @@ invariant-loop-done g l =
     (g.T.Blocks.size l.target ≡ g.T.Blocks.size l.initial.target)
     (g.T.Disk.attached l.target ≡ g.T.Disk.attached l.initial.target)
     (g.T.Blocks.faults l.initial.target ≤ g.T.Blocks.faults l.target)
+    (IsTrue g.T.Disk.tells_stops → Follows (AgreesOutside (512 * l.transfer.to) (512 * l.transfer.count)) (g.T.Disk.stops l.initial.target) (g.T.Disk.stops l.target))
 
 abbrev pub decreases-loop-done : goal.decreases-loop-done
 decreases-loop-done g l = l.transfer.count - l.done
