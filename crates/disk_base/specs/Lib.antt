@@ -8,3 +8,7 @@ pub mod Past
 pub mod Replays
 pub mod Stopped
 pub mod Stops
+pub mod Devices
+pub mod Fields
+pub mod Run
+pub mod formers

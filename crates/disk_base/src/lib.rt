@@ -14,16 +14,20 @@ mod checksum;
 mod checksum_table;
 mod collections;
 mod device;
+mod fields;
 mod memory;
 mod memory_sink;
 mod output;
+mod run;
 
-pub use checksum::crc32;
+pub use checksum::{crc32, crc32_lvm, crc32c, crc32c_without, one_checksum};
 pub use collections::{List, Name};
-pub use device::{Ask, Blocks, DeviceFault, Disk, Failed, Mode, SECTOR};
+pub use device::{Ask, Blocks, DeviceFault, Disk, Failed, MOST_SECTORS, Mode, SECTOR};
+pub use fields::{big_u16, big_u32, big_u64, little_u16, little_u32, little_u64, put};
 pub use memory::{MemDisk, MemLimits};
 pub use memory_sink::MemSink;
 pub use output::Sink;
+pub use run::Run;
 
 #[cfg(test)]
 mod tests;
