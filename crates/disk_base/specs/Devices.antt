@@ -3,7 +3,10 @@ use Rattle.std.specs.Prelude.{◌≡◌, ℕ, ◌≤◌, ◌⊎◌, ◌++◌, ta
 use Rattle.disk_base.specs.declared.device.Mode.{Mode}
 use Rattle.disk_base.specs.declared.device.Blocks.{Ghosts as BlocksGhosts}
 use Rattle.disk_base.specs.declared.device.Disk.{Ghosts as DiskGhosts}
+use Rattle.disk_base.specs.declared.device.DeviceFault.{DeviceFault}
+use Rattle.disk_base.specs.declared.device.DeviceFault.TheVariants.{Source, Target}
 use Rattle.disk_base.specs.declared.output.Sink.{Ghosts as SinkGhosts}
+use Rattle.disk_base.specs.Faults.{Rose}
 use Rattle.disk_base.specs.Log.{Log, Asked}
 
 -- the disk was not asked for between these two states of its log
@@ -20,6 +23,11 @@ pub record Used {D : Type 0} (b : BlocksGhosts D) (d : DiskGhosts D) (old new : 
   pub discards : d.discards new ≡ d.discards old
   pub later : b.faults old ≤ b.faults new
   pub asks : IsTrue b.tells → SameAsks (d.log old) (d.log new)
+
+-- the cause of a device's fault: whose count of faults rose
+abbrev pub CausedBy : {S T : Type 0} → BlocksGhosts S → S → S → BlocksGhosts T → T → T → DeviceFault → Type 0
+CausedBy s source source' t target target' Source = Rose (s.faults source) (s.faults source')
+CausedBy s source source' t target target' Target = Rose (t.faults target) (t.faults target')
 
 -- what is known of a disk at one moment
 pub record Held : Type 0 where
