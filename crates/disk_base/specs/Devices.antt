@@ -8,6 +8,7 @@ use Rattle.disk_base.specs.declared.device.DeviceFault.TheVariants.{Source, Targ
 use Rattle.disk_base.specs.declared.output.Sink.{Ghosts as SinkGhosts}
 use Rattle.disk_base.specs.Faults.{Rose}
 use Rattle.disk_base.specs.Log.{Log, Asked}
+use Rattle.disk_base.specs.Stops.{Stops}
 
 -- the disk was not asked for between these two states of its log
 pub record SameAsks (old new : Log) : Type 0 where
@@ -30,15 +31,25 @@ CausedBy s source source' t target target' Source = Rose (s.faults source) (s.fa
 CausedBy s source source' t target target' Target = Rose (t.faults target) (t.faults target')
 
 -- what is known of a disk at one moment
-pub record Held : Type 0 where
+pub record Held : Type 1 where
   pub tells : Bool  -- whether image and log are known
   pub image : List ℕ
   pub log : Log
   pub attached : Option Mode
   pub faults : ℕ
+  pub tells_stops : Bool  -- whether its stops are known
+  pub stops : Stops
 
 abbrev pub held : {D : Type 0} → BlocksGhosts D → DiskGhosts D → D → Held
-held b d disk = record { tells = b.tells; image = b.image disk; log = d.log disk; attached = d.attached disk; faults = b.faults disk }
+held b d disk = record {
+  tells = b.tells;
+  image = b.image disk;
+  log = d.log disk;
+  attached = d.attached disk;
+  faults = b.faults disk;
+  tells_stops = d.tells_stops;
+  stops = d.stops disk;
+}
 
 -- what is known of a stream at one moment
 pub record Stream : Type 0 where

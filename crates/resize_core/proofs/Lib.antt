@@ -4,3 +4,6 @@ pub mod PartsLemmas
 pub mod Placing
 pub mod ReadBack
 pub mod Stopping
+pub mod CopyLaw
+pub mod SourceLemmas
+pub mod WorkLemmas

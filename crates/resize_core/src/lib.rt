@@ -10,13 +10,19 @@
 #![tactic(auto)]
 
 mod carrying;
+mod job;
+mod judging;
 mod parts;
 mod preparing;
 mod ready;
 mod refusal;
+mod summary;
 mod targets;
+mod unready;
+mod writing;
 
 pub use carrying::carry_out;
+pub use job::copy;
 pub use preparing::prepare_mbr;
 pub use ready::Ready;
 pub use refusal::MbrRefused;
