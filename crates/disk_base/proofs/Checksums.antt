@@ -6,7 +6,7 @@ use Rattle.std.proofs.lemmas.Nat.{shr-shr, xor_shr, xor_lt, and_mask}
 use Rattle.std.specs.Int.Bits.{xor_add_and, xor_assoc as bit_xor_assoc, xor_self as bit_xor_self, xor_zero_r}
 use Rattle.std.proofs.lemmas.Grind.{flat_map-append}
 use Rattle.std.proofs.lemmas.List.{take_more}
-use Rattle.disk_base.specs.Checksum.{xor, plus, zeros, shifted, scaled, bits, message, IsRemainder, Leaves, IsTable, IsChecksum, IsCrc32, IsCrc32c, IsCrc32Lvm, OneChecksum, rest_with, rest_after, number_of, left_of, checksum_of, castagnoli, ieee_802_3}
+use Rattle.disk_base.specs.Checksum.{xor, plus, zeros, shifted, scaled, bits, message, IsRemainder, Leaves, IsTable, IsChecksum, IsCrc32, OneChecksum, rest_with, rest_after, number_of, left_of, checksum_of, castagnoli, ieee_802_3}
 use Rattle.disk_base.specs.declared.checksum_table.TheConstants.{CRC32, CRC32C}
 use Rattle.disk_base.proofs.Polynomials.{plus-nil, plus_self, plus_comm, plus_assoc, plus_swap, plus-append, zeros_plus, zeros_zeros, length-zeros, length-plus, length-rest_with, length-rest_after, rest_after-append, dividend, xor-false, one_remainder, remainder_of_division}
 

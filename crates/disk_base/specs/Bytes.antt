@@ -1,6 +1,6 @@
 -- A few bytes that are read as a disk.
 use Rattle.std.specs.Prelude.{◌≡◌, ℕ, ◌-◌, ◌*◌, ◌≤◌, List, ◌++◌, length, replicate, refl}
-use Rattle.std.proofs.Common.{◌∙◌, ap, sym, arith, length-append}
+use Rattle.std.proofs.Common.{◌∙◌, ap, arith, length-append}
 use Rattle.std.proofs.lemmas.List.{length-replicate}
 use Rattle.disk_base.specs.declared.byte_disk.ByteDisk.{ByteDisk}
 

@@ -70,6 +70,9 @@ mod tests {
         assert_eq!(rt; crc32c(b"123456789"), 0xE306_9283);
         assert_eq!(rt; crc32c(&[0; 32]), 0x8A91_36AA);
         assert_eq!(rt; crc32c_without(&[0; 32], 4), 0x8A91_36AA);
-        assert_eq!(rt; crc32c_without(b"1234_sum_56789", 4), crc32c(b"1234\0\0\0\0_56789"));
+        assert_eq!(rt;
+            crc32c_without(b"1234_sum_56789", 4),
+            crc32c(b"1234\0\0\0\0_56789")
+        );
     }
 }

@@ -1,5 +1,5 @@
 //! A disk in memory without a record of its calls, for work that needs no crash to be told.
-ghost use Rattle.std.specs.Prelude.{◌≡◌, ℕ, ◌+◌, ◌-◌, ◌*◌, ◌%◌, ◌/◌, ◌^◌, ◌<◌, ◌≤◌, true, false, length, IsTrue, IsOk, OnOk, OnErr, IfOk, Some, None, vec_capacity};
+ghost use Rattle.std.specs.Prelude.{◌≡◌, ℕ, ◌+◌, ◌-◌, ◌*◌, ◌%◌, ◌/◌, ◌^◌, ◌<◌, ◌≤◌, true, false, length, IsTrue, IsOk, is_err, OnOk, OnErr, IfOk, Some, None, vec_capacity};
 ghost use Rattle.disk_base.specs.Faults.{HasCause};
 ghost use Rattle.disk_base.specs.Image.{bytes_at, with_bytes, AgreesOutside, HalfWritten};
 
@@ -33,12 +33,7 @@ impl RamDisk {
 
     /// A disk of that name with `sectors` zero sectors that isn't attached, with room for `room` sectors,
     /// whose memory it takes.
-    pub fn new(
-        alloc: Global,
-        name: &str,
-        sectors: u64,
-        room: u64,
-    ) -> Result<RamDisk, AllocError>
+    pub fn new(alloc: Global, name: &str, sectors: u64, room: u64) -> Result<RamDisk, AllocError>
         requires inside { sectors ≤ room }
         requires small { room ≤ 2 ^ 31 }
         ensures { IfOk result (λ d. ram_state d ≡ ram_made name.now sectors room) }
@@ -202,7 +197,10 @@ impl Disk for RamDisk {
         Ok(())
     }
 
-    fn discard(&mut self, at: u64, n: u64) -> Result<(), Failed> {
+    fn discard(&mut self, at: u64, n: u64) -> Result<(), Failed>
+        ensures refused { is_err result ≡ true }
+        ensures unchanged { self.new ≡ self.old }
+    {
         Err(Failed)
     }
 

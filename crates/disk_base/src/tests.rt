@@ -258,9 +258,18 @@ fn a_disk_of_bytes_has_zeros_behind_them(rt: HostRuntime) -> Result<(), Fail> {
 #[test]
 fn numbers_are_read_in_both_byte_orders(rt: HostRuntime) {
     let bytes = [0, 1, 2, 3, 4, 5, 6, 7, 8];
-    assert_eq!(rt; (little_u16(&bytes, 1), big_u16(&bytes, 1)), (0x0201, 0x0102));
-    assert_eq!(rt; (little_u32(&bytes, 1), big_u32(&bytes, 1)), (0x0403_0201, 0x0102_0304));
-    assert_eq!(rt; (little_u64(&bytes, 1), big_u64(&bytes, 1)), (0x0807_0605_0403_0201, 0x0102_0304_0506_0708));
+    assert_eq!(rt;
+        (little_u16(&bytes, 1), big_u16(&bytes, 1)),
+        (0x0201, 0x0102)
+    );
+    assert_eq!(rt;
+        (little_u32(&bytes, 1), big_u32(&bytes, 1)),
+        (0x0403_0201, 0x0102_0304)
+    );
+    assert_eq!(rt;
+        (little_u64(&bytes, 1), big_u64(&bytes, 1)),
+        (0x0807_0605_0403_0201, 0x0102_0304_0506_0708)
+    );
     let mut out = [9; 4];
     put(&mut out, 1, &[5, 6]);
     assert_eq!(rt; out, [9, 5, 6, 9]);
@@ -291,7 +300,10 @@ fn lists_and_names_hold_what_they_are_given(rt: HostRuntime) -> Result<(), Fail>
     assert_eq!(rt; list.items(), [3, 4].as_slice());
     assert_eq!(rt; list.pop(), Some(4));
     assert_eq!(rt; Name::of(alloc, b"a b")?.bytes(), b"a b".as_slice());
-    assert_eq!(rt; Name::from_vec(b"a".to_vec(alloc)?).bytes(), b"a".as_slice());
+    assert_eq!(rt;
+        Name::from_vec(b"a".to_vec(alloc)?).bytes(),
+        b"a".as_slice()
+    );
     assert_eq!(rt;
         format!(in alloc; "{}, {}", DeviceFault::Source, DeviceFault::Target)?.as_str(),
         "source device, target device"

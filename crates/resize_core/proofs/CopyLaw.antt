@@ -96,23 +96,23 @@ source_stops source target (Entry number) none = record {
   stage = 3;
   passed = ((none.0, none.2.0, none.2.1), none.1);
   ends = λ has.
-    let own : IsOwnTable source has.0 = has.1 in
-    let first : IsFirstBad (sectors_of source) (slots_of (sector source 0)) number = none.2.2 in
-    let from_one : 1 ≤ number = first.counted.0 in
-    let to_four : number ≤ 4 = first.counted.1 in
-    let Bad : List Slot → Type 0 = λ slots. IsBadEntry (sectors_of source) slots (number - 1) in
-    own.is_table.sound.none_bad (number - 1) (omega arith) (subst Bad (sym own.is_table.slots) first.bad);
+      let own : IsOwnTable source has.0 = has.1 in
+      let first : IsFirstBad (sectors_of source) (slots_of (sector source 0)) number = none.2.2 in
+      let from_one : 1 ≤ number = first.counted.0 in
+      let to_four : number ≤ 4 = first.counted.1 in
+      let Bad : List Slot → Type 0 = λ slots. IsBadEntry (sectors_of source) slots (number - 1) in
+      own.is_table.sound.none_bad (number - 1) (omega arith) (subst Bad (sym own.is_table.slots) first.bad);
   is_status = refl;
 }
 source_stops source target (Overlap a b) none = record {
   stage = 5;
   passed = (none.0, none.1);
   ends = λ has.
-    let apart : IsApart source has.0 = has.1 in
-    let served : IsServedTable source none.0 = none.1 in
-    let overlap : IsOverlap none.0.slots a b = none.2 in
-    let Apart : List Slot → Type 0 = λ slots. LieApart slots in
-    subst Apart (same_slots source has.0 none.0 apart.served.own served.own) apart.apart (a - 1) (b - 1) overlap.pair.order overlap.pair.within overlap.pair.meet;
+      let apart : IsApart source has.0 = has.1 in
+      let served : IsServedTable source none.0 = none.1 in
+      let overlap : IsOverlap none.0.slots a b = none.2 in
+      let Apart : List Slot → Type 0 = λ slots. LieApart slots in
+      subst Apart (same_slots source has.0 none.0 apart.served.own served.own) apart.apart (a - 1) (b - 1) overlap.pair.order overlap.pair.within overlap.pair.meet;
   is_status = refl;
 }
 
@@ -120,14 +120,14 @@ unserved_stops : (source target : List ℕ) → IsUnserved source → StopsAt (P
 unserved_stops source target unserved = elim unserved [
   | inl other ↦ record { stage = 2; passed = (other.small, other.ruled.0, other.ruled.1.0); ends = λ passed. passed.1 other.ruled; is_status = refl }
   | inr extended ↦ record {
-      stage = 4;
-      passed = (extended.table, extended.own);
-      ends = λ has.
+    stage = 4;
+    passed = (extended.table, extended.own);
+    ends = λ has.
         let served : IsServedTable source has.0 = has.1 in
         let Plain : List Slot → Type 0 = λ slots. HasNoExtended slots in
         extended.extended (subst Plain (same_slots source has.0 extended.table served.own extended.own) served.plain);
-      is_status = refl;
-    }
+    is_status = refl;
+  }
 ]
 
 plan_stops : (source target : List ℕ) (fault : NoPlan) → HasNoPlanFor source target fault → StopsAt (Passed source target) status_at 4
@@ -137,9 +137,9 @@ plan_stops source target fault none =
       stage = 6;
       passed = (none.table, record { served = none.served; apart = refused.0 });
       ends = λ has.
-        let None : List Slot → Type 0 = λ slots. HasNoPlanOf (sectors_of target) (parts_of slots) (Refused fault) in
-        no_plan_of_planned (sectors_of target) (parts_of has.table.slots) fault has.work.plan has.is_work.ready.plan
-        (subst None (same_slots source none.table has.table none.served.own has.is_work.served.own) refused.1);
+          let None : List Slot → Type 0 = λ slots. HasNoPlanOf (sectors_of target) (parts_of slots) (Refused fault) in
+          no_plan_of_planned (sectors_of target) (parts_of has.table.slots) fault has.work.plan has.is_work.ready.plan
+          (subst None (same_slots source none.table has.table none.served.own has.is_work.served.own) refused.1);
       is_status = refl;
     }
 

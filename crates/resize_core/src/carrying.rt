@@ -26,7 +26,7 @@ fn clear_table<T: Disk>(target: &mut T) -> Result<(), Failed>
 {
     let zeros = [0; SECTOR];
     target.write(0, &zeros)?;
-    target.flush()?;
+    target.flush()?; // before any of the old contents goes
     Ok(())
 }
 
@@ -42,9 +42,9 @@ fn put_table<T: Disk>(target: &mut T, table: &[u8; 512]) -> Result<(), Failed>
     ensures used { Used T.Blocks T.Disk.own target.old target.new }
     ensures cause { OnErr result (Rose (T.faults target.old) (T.faults target.new)) }
 {
-    target.flush()?;
+    target.flush()?; // all that the table names
     target.write(0, table)?;
-    target.flush()?;
+    target.flush()?; // the table itself
     Ok(())
 }
 

@@ -151,12 +151,10 @@ fn attach_both<S: Disk, T: Disk>(
     ensures target_later { T.faults target.old ≤ T.faults target.new }
     ensures cause { IfErr result (CausedBy S.Blocks source.old source.new T.Blocks target.old target.new) }
 {
-    source
-        .attach(from.as_bytes(), Mode::Read)
-        .map_err(|_| DeviceFault::Source)?;
-    target
-        .attach(to.as_bytes(), Mode::Change)
-        .map_err(|_| DeviceFault::Target)?;
+    let read = source.attach(from.as_bytes(), Mode::Read);
+    read.map_err(|_| DeviceFault::Source)?;
+    let change = target.attach(to.as_bytes(), Mode::Change);
+    change.map_err(|_| DeviceFault::Target)?;
     Ok(())
 }
 

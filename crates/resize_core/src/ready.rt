@@ -3,8 +3,8 @@ ghost use Rattle.std.specs.Prelude.{◌≡◌};
 ghost use Rattle.resize_core.specs.Finished.{boot_transfer};
 ghost use Rattle.resize_core.specs.Ready.{CanBeDone};
 
-use run_copy::Transfer;
 use layout_plan::Planned;
+use run_copy::Transfer;
 use std::marker::Model;
 
 /// All that is to be written to a target, made before the first write.

@@ -5,9 +5,9 @@ ghost use Rattle.layout_plan.specs.Plans.{IsInside};
 ghost use Rattle.mbr_table.specs.Slot.{empty_slot};
 ghost use Rattle.resize_core.specs.Targets.{source_slot, placed_slot, extra_slot, spare_slot, target_slot, target_slots, transfer_of, transfers_of, least_start, boot_end, IsNamed};
 
-use run_copy::Transfer;
 use layout_plan::{Part, Placed, Planned};
 use mbr_table::Slot;
+use run_copy::Transfer;
 use std::alloc::{AllocError, Global};
 
 const EMPTY: Slot = Slot {

@@ -249,6 +249,75 @@ fn says_which_disk_failed(rt: HostRuntime) -> Result<(), Fail> {
     Ok(())
 }
 
+/// What a disk that held bytes 5A may hold while a copy goes on.
+#[derive(Clone, Copy, Debug, PartialEq, Eq)]
+enum Kind {
+    AsItWas,
+    NoTable,
+    Done,
+    Other,
+}
+
+fn are_all(bytes: &[u8], byte: u8) -> bool {
+    bytes.iter().all(|one| *one == byte)
+}
+
+fn kind_of(image: &[u8], done: &[u8]) -> Kind {
+    if are_all(image, 0x5A) {
+        Kind::AsItWas
+    } else if image == done {
+        Kind::Done
+    } else if are_all(image.get(..512).unwrap_or(image), 0) {
+        Kind::NoTable
+    } else {
+        Kind::Other
+    }
+}
+
+// What a stop inside that call leaves, where the first `keep` sectors of what wasn't lasting came through.
+fn kind_at(alloc: Global, disk: &MemDisk, call: u64, keep: u64) -> Result<Kind, AllocError> {
+    if !disk.has_stops(call) {
+        return Ok(Kind::Other);
+    }
+    let image = disk.stopped(alloc, call, keep, 0)?;
+    Ok(kind_of(image.as_slice(), disk.image()))
+}
+
+// The calls: attach, zeros and flush, the content, the boot area and flush, the table and flush.
+#[test]
+fn a_stop_leaves_the_target_as_it_was_without_a_table_or_done(
+    rt: HostRuntime,
+) -> Result<(), Fail> {
+    let alloc = rt.alloc();
+    let lone = [slot(128, 2), EMPTY, EMPTY, EMPTY];
+    let mut to = target(alloc, 130, &[])?;
+    assert_eq!(rt;
+        copy(alloc, &mut source(alloc, &lone, &[])?, &mut to)?,
+        Outcome::Copied { placed: 1 }
+    );
+    let (was, none, done) = (Kind::AsItWas, Kind::NoTable, Kind::Done);
+    let cases = [
+        (0, [was, was, was]),
+        (1, [was, none, none]),
+        (2, [was, none, none]),
+        (3, [none, none, none]),
+        (4, [none, none, none]),
+        (5, [none, none, none]),
+        (6, [none, done, done]),
+        (7, [none, done, done]),
+    ];
+    for (call, kinds) in cases {
+        let left = [
+            kind_at(alloc, &to, call, 0)?,
+            kind_at(alloc, &to, call, 1)?,
+            kind_at(alloc, &to, call, 1000)?,
+        ];
+        assert_eq!(rt; left, kinds, "call {call}");
+    }
+    assert_eq!(rt; to.calls(), 8);
+    Ok(())
+}
+
 #[test]
 fn names_each_refusal(rt: HostRuntime) -> Result<(), Fail> {
     let cases = [

@@ -2,10 +2,10 @@
 use Rattle.std.proofs.lemmas.Bool.{cases_lt}
 use Rattle.std.proofs.lemmas.List.{get_or_default}
 use Rattle.std.proofs.Common.{◌≡◌, ℕ, ◌+◌, ◌-◌, ◌*◌, ◌/◌, ◌<◌, ◌≤◌, min, List, length, Bool, true, false, cond, ◌&&◌, arith, refl, ◌∙◌, sym, ap, subst, inl, inr, slice_index_or, AllPairs}
-use Rattle.disk_base.specs.Image.{bytes_at, with_bytes, sector, AgreesOutside}
-use Rattle.disk_base.proofs.Images.{agrees_refl, bytes_outside, agrees_with_bytes, length-bytes_at, length-with_bytes, sector_written, sector_before, sector_behind, sector_of_range}
+use Rattle.disk_base.specs.Image.{with_bytes, sector, AgreesOutside}
+use Rattle.disk_base.proofs.Images.{agrees_refl, bytes_outside, agrees_with_bytes, length-bytes_at, sector_written, sector_before, sector_behind, sector_of_range}
 use Rattle.run_copy.specs.declared.transfer.Transfer.{Transfer}
-use Rattle.run_copy.specs.Copies.{all_zero, piece_of, is_left_out, due, put_of, IsOutside, IsCopied, AreCopied, OnlyIn, OnlyWithin, WriteApart}
+use Rattle.run_copy.specs.Copies.{all_zero, piece_of, is_left_out, due, put_of, IsOutside, IsCopied, AreCopied, OnlyWithin, WriteApart}
 
 -- what a loop over the target keeps: the source is only read, so much is done, and the target was used as it is said
 pub record Goes (reads within_count was_copied agrees uses stops : Type 0) : Type 0 where

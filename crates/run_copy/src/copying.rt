@@ -69,7 +69,8 @@ fn copy_piece<S: Blocks, T: Disk>(
     let done = PIECE * number;
     let n = (count - done).min(PIECE);
     let piece = &mut buffer[..SECTOR * n as usize];
-    source.read(from + done, piece).map_err(|_| DeviceFault::Source)?;
+    let read = source.read(from + done, piece);
+    read.map_err(|_| DeviceFault::Source)?;
     put_piece(target, to + done, sparse, piece).map_err(|_| DeviceFault::Target)?;
     Ok(())
 }

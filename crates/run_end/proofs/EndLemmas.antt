@@ -1,5 +1,5 @@
 -- What holds of every job's end.
-use Rattle.std.proofs.Common.{◌≡◌, ℕ, List, inl, inr, refl, sym, subst, arith, Option, None, Some, Bool, IsTrue}
+use Rattle.std.proofs.Common.{ℕ, List, inl, inr, refl, sym, arith, None, Some, IsTrue}
 use Rattle.disk_base.specs.declared.device.DeviceFault.TheVariants as devices
 use Rattle.disk_base.specs.Stops.{AreOf}
 use Rattle.run_end.specs.declared.end.End.{End}
@@ -27,7 +27,7 @@ decided m (Failed Printing) law is due is_due = inr (inr (refl, sym (law None du
 memory_for : (m : Meaning) (old new : World) (refusal : Refusal) → Ended m old new (Refused refusal) → Ended m old new (Refused Memory)
 memory_for m old new refusal ended = record {
   cause = tt;
-  attached = inl refl;
+  attached = ended.attached;
   source = ended.source;
   asked = ended.asked;
   due = λ tells. inl refl;
@@ -47,7 +47,7 @@ told_for m old new (Refused refusal) end' ended for = elim for [ inl same ↦ rw
 pub uncalled : (world : World) → (IsTrue world.target.tells_stops → AreOf world.target.image world.target.stops) → Ended unserved world world (Refused NotYet)
 uncalled world are = record {
   cause = tt;
-  attached = inr (tt, tt);
+  attached = (tt, tt);
   source = λ tells. record { image = refl; log = inl refl };
   asked = λ tells. asked_of None world.target world.target (record { image = refl; log = inl refl });
   due = λ tells. inr refl;

@@ -1,5 +1,5 @@
 -- What is said of a job that ended, by what it means.
-use Rattle.std.specs.Prelude.{◌≡◌, ℕ, List, Option, None, Some, Bool, IsTrue}
+use Rattle.std.specs.Prelude.{Option, None, Some, Bool, IsTrue}
 use Rattle.disk_base.specs.declared.device.Blocks.{Ghosts as BlocksGhosts}
 use Rattle.disk_base.specs.declared.device.Disk.{Ghosts as DiskGhosts}
 use Rattle.disk_base.specs.declared.output.Sink.{Ghosts as SinkGhosts}

@@ -1,5 +1,5 @@
 -- What the end of a run says, whatever the job: nothing here speaks of one tool.
-use Rattle.std.specs.Prelude.{◌≡◌, ℕ, ◌≤◌, ◌⊎◌, ◌++◌, List, Option, None, Some, IsTrue}
+use Rattle.std.specs.Prelude.{◌≡◌, ℕ, ◌≤◌, ◌⊎◌, ◌++◌, List, Option, None, Some}
 use Rattle.disk_base.specs.declared.device.DeviceFault.{DeviceFault}
 use Rattle.disk_base.specs.declared.device.DeviceFault.TheVariants as devices
 use Rattle.disk_base.specs.declared.device.Mode.{Mode}
@@ -101,7 +101,7 @@ Unprinted old new end = Unit {0}
 
 -- which disks are attached: the target is asked for only where the source is
 abbrev pub Attached : Meaning → Option Mode → Option Mode → End → Type 0
-Attached m source target (Refused refusal) = (refusal ≡ Memory) ⊎ (IsAttached m.source source × IsAttached m.target target)
+Attached m source target (Refused refusal) = IsAttached m.source source × IsAttached m.target target
 Attached m source target (Failed (Device devices.Source)) = Unit {0}
 Attached m source target (Failed (Device devices.Target)) = IsAttached m.source source
 Attached m source target (Failed Printing) = IsAttached m.source source × IsAttached m.target target

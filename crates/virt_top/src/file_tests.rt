@@ -143,6 +143,8 @@ fn a_file_that_may_not_be_written_is_not_changed(rt: HostRuntime) -> Result<(), 
         disk.attach(path.as_bytes(), Mode::Change).is_ok(),
         may_write
     );
+    let left = fs::read(&rt, path.as_str())?;
+    assert_eq!(rt; left.as_slice(), [9u8; 512].as_slice());
     fs::remove_dir_all(&rt, folder.as_str())?;
     Ok(())
 }

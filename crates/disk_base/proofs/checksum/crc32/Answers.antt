@@ -1,4 +1,4 @@
-use Rattle.std.proofs.Common.{◌≡◌, ℕ, subst, sym, lit<}
+use Rattle.std.proofs.Common.{ℕ, subst, sym, lit<}
 use Rattle.disk_base.specs.Checksum.{IsChecksum, ieee_802_3}
 use Rattle.disk_base.proofs.Checksums.{checksum_is, inverted, crc32_table}
 use Rattle.disk_base.proofs.checksum.crc32.Goals as goal

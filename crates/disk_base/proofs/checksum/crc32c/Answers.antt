@@ -1,4 +1,4 @@
-use Rattle.std.proofs.Common.{◌≡◌, ℕ, subst, sym, lit<}
+use Rattle.std.proofs.Common.{ℕ, subst, sym, lit<}
 use Rattle.disk_base.specs.Checksum.{IsChecksum, castagnoli}
 use Rattle.disk_base.proofs.Checksums.{checksum_is, inverted, crc32c_table}
 use Rattle.disk_base.proofs.checksum.crc32c.Goals as goal

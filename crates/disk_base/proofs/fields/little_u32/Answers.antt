@@ -1,4 +1,4 @@
-use Rattle.std.proofs.Common.{◌≡◌, ap, ◌∙◌, arith}
+use Rattle.std.proofs.Common.{ap, ◌∙◌}
 use Rattle.byteorder.specs.Endian.{little_number}
 use Rattle.disk_base.specs.Fields.{little_at}
 use Rattle.disk_base.proofs.Fieldwork.{to_the_end}

@@ -1,10 +1,7 @@
 -- By the record of the call, or where there is none.
-use Rattle.std.proofs.Common.{rules, ◌≡◌, ◌≤◌, ℕ, List, length, false, arith, ap, ◌∙◌, slice_index_or}
+use Rattle.std.proofs.Common.{◌≤◌, length, arith, ap}
 use Rattle.std.proofs.lemmas.List.{length-map, get_or_past}
-use Rattle.disk_base.specs.declared.memory.Effect.TheVariants.{Nothing}
 use Rattle.disk_base.specs.Past.{Idle, event_of, events_of, is_created}
-use Rattle.disk_base.specs.Stopped.{event_at}
-use Rattle.disk_base.proofs.Stoppings.{event_of_at}
 use Rattle.disk_base.proofs.memory.none_created.Goals as goal
 
 pub returns : goal.returns

@@ -1,5 +1,5 @@
 -- One more piece: what it put, or left out, goes to the invariant by `piece_more`.
-use Rattle.std.proofs.Common.{◌≡◌, ℕ, ◌+◌, ◌-◌, ◌*◌, ◌<◌, min, List, arith, ap, sym, subst, ◌∙◌}
+use Rattle.std.proofs.Common.{◌≡◌, ℕ, ◌+◌, ◌-◌, ◌*◌, ◌<◌, min, List, arith, ap, subst, ◌∙◌}
 use Rattle.disk_base.proofs.Images.{agrees_on}
 use Rattle.disk_base.proofs.Moments.{follows_on}
 use Rattle.disk_base.proofs.Uses.{used_on}

@@ -1,5 +1,5 @@
 -- The pieces so far were copied, and nothing else was changed.
-use Rattle.std.proofs.Common.{◌≤◌, ◌*◌, min, IsTrue}
+use Rattle.std.proofs.Common.{◌*◌, min, IsTrue}
 use Rattle.disk_base.specs.Devices.{Used}
 use Rattle.disk_base.specs.Stops.{Follows}
 use Rattle.run_copy.specs.Copies.{IsCopied, OnlyIn}

@@ -1,5 +1,4 @@
 -- The disk's own record.
-use Rattle.std.proofs.Common.{ℕ, List}
 use Rattle.std.proofs.lemmas.Result.{IfOk-weaker}
 use Rattle.disk_base.specs.Past.{events_of}
 use Rattle.disk_base.specs.Memory.{LeftSince}
