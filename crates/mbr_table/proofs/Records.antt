@@ -1,6 +1,6 @@
 -- A record's sector that was written is read as its slots, and records that were written are a chain.
 use Rattle.std.proofs.Common.{◌≡◌, ℕ, zero, suc, ◌+◌, ◌-◌, ◌^◌, ◌<◌, ◌≤◌, inl, inr, Bool, true, cond, nat_eq, Option, None, Some, option_map, List, [], ◌∷◌, ◌++◌, length, take, replicate, map, get_or, slice_get, slice_index, All, MatchOption, add-one, refl, sym, ap, ◌∙◌, subst, append_assoc, arith}
-use Rattle.std.specs.List.{cons_option}
+use Rattle.std.specs.List.{cons_option, find}
 use Rattle.std.proofs.lemmas.List.{length-replicate, take_all, length-map, get_or-map}
 use Rattle.std.proofs.lemmas.List.Elements.{All-head, All-tail, All-get_or, All-from_get_or}
 use Rattle.std.proofs.lemmas.Option.{slice_get-get_or, slice_get_past}
@@ -11,11 +11,12 @@ use Rattle.disk_base.specs.Image.{bytes_at, sector}
 use Rattle.mbr_table.specs.declared.slot.Slot.{Slot}
 use Rattle.mbr_table.specs.declared.slot.Logical.{Logical}
 use Rattle.mbr_table.specs.Signature.{HasSignature}
-use Rattle.mbr_table.specs.Slot.{slot_of, empty_slot, is_used, kept, entry_of}
-use Rattle.mbr_table.specs.Chain.{own_of, link_of, next_of, own_logical, logical_of, due_at, logicals_at, LiesBehind, IsGoodRecord, IsChain, IsLogicalIn}
-use Rattle.mbr_table.specs.Record.{link_slot, link_entry_of, ebr_sector_of, own_slot, link_to, AreWritten}
+use Rattle.mbr_table.specs.Slot.{slot_of, empty_slot, is_used, holds_extended, kept, entry_of}
+use Rattle.mbr_table.specs.Chain.{own_of, link_of, next_of, own_logical, logical_of, due_at, logicals_at, LiesBehind, IsGoodRecord, IsChain, AreChained, IsLogicalIn}
+use Rattle.mbr_table.specs.Record.{link_slot, link_entry_of, ebr_sector_of, own_slot, link_to, AreWritten, HasRecords}
+use Rattle.mbr_table.specs.Mbr.{Table, IsSectorTable, IsMbrTable}
 use Rattle.mbr_table.proofs.Entries.{length-entry_of, entry_read_back}
-use Rattle.mbr_table.proofs.Tables.{Parts, four_parts}
+use Rattle.mbr_table.proofs.Tables.{Parts, four_parts, found_bounds}
 
 -- the entry for the next record has 16 bytes
 pub length-link_entry_of : (next : Option (ℕ × ℕ)) → length (link_entry_of next) ≡ 16
@@ -222,3 +223,23 @@ pub logicals_written : (image : List ℕ) (extended : Slot) (logicals : List Log
 logicals_written image extended logicals fits are =
     listed image logicals (All-from_get_or (λ (l : Logical). logical_of l.ebr (sector image l.ebr) ≡ Some l) logicals zero_logical
     (λ i lt. (is_back image extended logicals i fits are lt).logical_is))
+
+pub table_written_back : (sectors : ℕ) (image : List ℕ) (table : Table) → sectors ≤ 2 ^ 31 → IsSectorTable sectors (sector image 0) table
+    → HasRecords image table → IsMbrTable sectors image table
+table_written_back sectors image table few is records = record {
+  in_sector = is;
+  logicals =
+      elim (find holds_extended table.slots) as (λ o. (find holds_extended table.slots ≡ o)
+      → MatchOption o (table.logicals ≡ []) (λ extended. AreWritten image extended table.logicals)
+      → MatchOption o (table.logicals ≡ []) (λ extended. AreChained image extended table.logicals)) [
+        | None ↦ λ e none. none
+        | Some extended ↦ λ e are.
+            let bounds = found_bounds sectors table.slots extended e is.sound in
+            let fits : extended.count < 2 ^ 32 = omega (arith, bounds.1) in
+            record {
+              places = map (λ (l : Logical). l.ebr) table.logicals;
+              chain = chain_written image extended table.logicals fits are;
+              logicals_are = sym (logicals_written image extended table.logicals fits are);
+            }
+      ] refl records;
+}

@@ -107,7 +107,7 @@ place_fault image extended walk at Device is why = absurd why
 place_fault image extended walk at Memory is why = absurd why
 
 pub record_fault : (image : List ℕ) (extended : Slot) (walk : Walk) (at place : ℕ) (fault : MbrFault) → place ≡ at
-    → IsWalkTo image extended walk at → IsNew extended walk.places.items at → IsRecordFault extended place (sector image place) fault
+    → IsWalkTo image extended walk at → IsNew extended walk.places.items at → IsRecordFault image extended place fault
     → IsChainFault image extended fault
 record_fault image extended walk at place NoSignature place-is is is_new why = absurd why
 record_fault image extended walk at place (Entry number) place-is is is_new why = absurd why

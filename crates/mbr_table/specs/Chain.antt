@@ -24,7 +24,8 @@ next_of base bytes = if (link_of bytes).kind == 0 then None else Some (base + (l
 -- the logical partition of a record at a place with that own slot: none where it is unused, else with its start counted
 -- from the start of the disk
 unfoldable pub own_logical : ℕ → Slot → Option Logical
-own_logical at own = if is_used own then Some (record { ebr = at; slot = record own { start = at + own.start } }) else None
+own_logical at own =
+    if is_used own then Some (record { ebr = at; slot = record own { start = at + own.start } }) else None
 
 abbrev pub logical_of : ℕ → List ℕ → Option Logical
 logical_of at bytes = own_logical at (own_of bytes)
@@ -54,7 +55,8 @@ pub record IsBeginning (image : List ℕ) (extended : Slot) (places : List ℕ) 
   pub following : (i : ℕ) → i < length places → due_at image extended places i ≡ Some (slice_index places i)
   pub distinct : AllPairs (λ x y. x ≢ y) places
   pub few : length places ≤ 60
-  pub sound : (i : ℕ) → i < length places → IsGoodRecord extended (slice_index places i) (sector image (slice_index places i))
+  pub sound : (i : ℕ) → i < length places
+      → IsGoodRecord extended (slice_index places i) (sector image (slice_index places i))
 
 -- the chain of an extended partition: a beginning after which no record is due
 pub record IsChain (image : List ℕ) (extended : Slot) (places : List ℕ) : Type 0 where

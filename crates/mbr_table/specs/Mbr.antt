@@ -5,6 +5,7 @@ use Rattle.std.specs.List.{list_any, flat_map, find}
 use Rattle.disk_base.specs.Image.{bytes_at, sector}
 use Rattle.mbr_table.specs.declared.slot.Slot.{Slot}
 use Rattle.mbr_table.specs.declared.slot.Logical.{Logical}
+use Rattle.mbr_table.specs.declared.sector.SectorTable.{SectorTable}
 use Rattle.mbr_table.specs.declared.fault.MbrFault.{MbrFault}
 use Rattle.mbr_table.specs.declared.fault.MbrFault.TheVariants.{NoSignature, Entry, Chain, TooMany, Device, Memory}
 use Rattle.mbr_table.specs.Signature.{HasSignature}
@@ -20,7 +21,8 @@ pub record Table : Type 0 where
 -- the four slots, 16 bytes each from byte 446 on
 abbrev pub slots_of : List ℕ → List Slot
 slots_of bytes =
-    slot_of (bytes_at bytes 446 16) ∷ slot_of (bytes_at bytes 462 16) ∷ slot_of (bytes_at bytes 478 16) ∷ slot_of (bytes_at bytes 494 16) ∷ []
+    slot_of (bytes_at bytes 446 16) ∷ slot_of (bytes_at bytes 462 16) ∷ slot_of (bytes_at bytes 478 16)
+    ∷ slot_of (bytes_at bytes 494 16) ∷ []
 
 -- it has the signature, and a slot that stands in for another table
 abbrev pub IsProtective : List ℕ → Type 0
@@ -44,6 +46,10 @@ pub record IsSectorTable (sectors : ℕ) (bytes : List ℕ) (table : Table) : Ty
   pub head : table.head ≡ bytes_at bytes 0 446
   pub slots : table.slots ≡ slots_of bytes
   pub sound : IsSound sectors table.slots
+
+-- the table of what sector 0 says, of a disk without logical partitions
+abbrev pub plain_table : SectorTable → Table
+plain_table found = record { head = found.head; slots = found.slots; logicals = [] }
 
 -- the logical partitions of a disk whose table has these slots: those of the extended one's chain, or none
 abbrev pub AreLogicals : List ℕ → List Slot → List Logical → Type 0

@@ -1,11 +1,12 @@
 -- The sectors that are written for a chain of extended boot records.
-use Rattle.std.specs.Prelude.{◌≡◌, ◌≢◌, ℕ, ◌+◌, ◌-◌, ◌^◌, ◌<◌, ◌≤◌, Option, None, Some, option_map, slice_get, List, [], ◌∷◌, ◌++◌, length, replicate, map, All}
-use Rattle.std.specs.List.{AllPairs}
+use Rattle.std.specs.Prelude.{◌≡◌, ◌≢◌, ℕ, ◌+◌, ◌-◌, ◌^◌, ◌<◌, ◌≤◌, Option, None, Some, option_map, slice_get, MatchOption, List, [], ◌∷◌, ◌++◌, length, replicate, map, All}
+use Rattle.std.specs.List.{AllPairs, find}
 use Rattle.disk_base.specs.Image.{sector}
 use Rattle.mbr_table.specs.declared.slot.Slot.{Slot}
 use Rattle.mbr_table.specs.declared.slot.Logical.{Logical}
-use Rattle.mbr_table.specs.Slot.{entry_bytes, entry_of, end_of}
+use Rattle.mbr_table.specs.Slot.{entry_bytes, entry_of, end_of, holds_extended}
 use Rattle.mbr_table.specs.Chain.{IsChain, IsLogicalIn, logicals_at}
+use Rattle.mbr_table.specs.Mbr.{Table, IsSectorTable, IsMbrTable}
 
 -- the slot that stands for the next record: its start, counted from the extended partition's start, and its count
 abbrev pub link_slot : ℕ × ℕ → Slot
@@ -29,6 +30,10 @@ own_slot logical = record logical.slot { start = logical.slot.start - logical.eb
 abbrev pub link_to : ℕ → Logical → ℕ × ℕ
 link_to base logical = (logical.ebr - base, end_of logical.slot - logical.ebr)
 
+-- what the record of the logical partition at index `i` says of the next record
+abbrev pub link_after : ℕ → List Logical → ℕ → Option (ℕ × ℕ)
+link_after base logicals i = option_map (link_to base) (slice_get logicals (i + 1))
+
 -- the records of logical partitions, from the extended one's start on and no two in one place, stand in a disk as they
 -- are written
 pub record AreWritten (image : List ℕ) (extended : Slot) (logicals : List Logical) : Type 0 where
@@ -37,11 +42,24 @@ pub record AreWritten (image : List ℕ) (extended : Slot) (logicals : List Logi
   pub distinct : AllPairs (λ a b. a.ebr ≢ b.ebr) logicals
   pub inside : All (IsLogicalIn extended) logicals
   pub written : (i : ℕ) (logical : Logical) → slice_get logicals i ≡ Some logical
-      → sector image logical.ebr ≡ ebr_sector_of (own_slot logical) (option_map (link_to extended.start) (slice_get logicals (i + 1)))
+      → sector image logical.ebr ≡ ebr_sector_of (own_slot logical) (link_after extended.start logicals i)
 
 -- a chain that was written for logical partitions is read as them
 abbrev pub ChainReadsBack : Type 0
 ChainReadsBack =
-    (image : List ℕ) (extended : Slot) (logicals : List Logical) → extended.count < 2 ^ 32 → AreWritten image extended logicals
+    (image : List ℕ) (extended : Slot) (logicals : List Logical) → extended.count < 2 ^ 32
+    → AreWritten image extended logicals
     → IsChain image extended (map (λ logical. logical.ebr) logicals)
     × (logicals_at image (map (λ logical. logical.ebr) logicals) ≡ logicals)
+
+-- the records of a table's logical partitions stand in a disk as they are written
+abbrev pub HasRecords : List ℕ → Table → Type 0
+HasRecords image table =
+    MatchOption (find holds_extended table.slots) (table.logicals ≡ [])
+    (λ extended. AreWritten image extended table.logicals)
+
+-- a disk in which a table was written, its sector 0 and its records, is read as that table
+abbrev pub TableReadsBack : Type 0
+TableReadsBack =
+    (sectors : ℕ) (image : List ℕ) (table : Table) → sectors ≤ 2 ^ 31 → IsSectorTable sectors (sector image 0) table
+    → HasRecords image table → IsMbrTable sectors image table

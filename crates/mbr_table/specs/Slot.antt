@@ -56,7 +56,8 @@ kept slot = if is_used slot then slot else empty_slot
 -- numbers of sectors alone count
 abbrev pub entry_bytes : Slot → List ℕ
 entry_bytes slot =
-    slot.status ∷ 0xFE ∷ 0xFF ∷ 0xFF ∷ slot.kind ∷ 0xFE ∷ 0xFF ∷ 0xFF ∷ [] ++ little_bytes 4 slot.start ++ little_bytes 4 slot.count
+    slot.status ∷ 0xFE ∷ 0xFF ∷ 0xFF ∷ slot.kind ∷ 0xFE ∷ 0xFF ∷ 0xFF ∷ [] ++ little_bytes 4 slot.start
+    ++ little_bytes 4 slot.count
 
 -- the entry that is written for a slot
 abbrev pub entry_of : Slot → List ℕ

@@ -5,7 +5,7 @@ ghost use Rattle.disk_base.specs.Faults.{Rose};
 ghost use Rattle.disk_base.specs.Image.{sector};
 ghost use Rattle.mbr_table.specs.Slot.{is_used, end_of};
 ghost use Rattle.mbr_table.specs.Chain.{own_of, own_logical, next_of, IsInside, LiesBehind, IsGoodRecord, AreLogicalsIn, AreChained, OneChain};
-ghost use Rattle.mbr_table.specs.inside.Walk.{IsNew, IsPlaceFault, IsFound, IsReadRecord, IsRecordFault, IsWalk, IsWalkTo, IsWithin, IsChainFault};
+ghost use Rattle.mbr_table.specs.inside.Walk.{IsNew, IsPlaceFault, IsJudged, IsReadRecord, IsRecordFault, IsWithin, WalksOn, WalkEnds, IsChainFault};
 
 use crate::fault::MbrFault;
 use crate::sector::has_signature;
@@ -79,7 +79,7 @@ fn next_in(base: u32, sector: &[u8; SECTOR]) -> Option<u64>
 pub(crate) fn judge_record(extended: &Slot, at: u32, sector: &[u8; SECTOR]) -> Option<Record>
     requires inside { IsInside extended.now at }
     requires addressed { end_of extended.now ≤ 2 ^ 31 }
-    ensures { MatchOption result (IsGoodRecord extended.now at sector.now → ⊥) (λ found. IsFound extended.now at sector.now found) }
+    ensures { IsJudged extended.now at sector.now result }
 {
     if !has_signature(sector) {
         return None;
@@ -122,7 +122,7 @@ fn read_record<B: Blocks>(disk: &mut B, extended: &Slot, at: u32) -> Result<Reco
     requires addressed { B.size disk.old ≤ 2 ^ 31 }
     ensures read { B.only_read disk.old disk.new }
     ensures found { IfOk result (λ found. IsReadRecord B.tells (B.image disk.old) extended.now at found) }
-    ensures fault { IsTrue B.tells → IfErr result (λ fault. IsRecordFault extended.now at (sector (B.image disk.old) at) fault) }
+    ensures fault { IsTrue B.tells → IfErr result (λ fault. IsRecordFault (B.image disk.old) extended.now at fault) }
     ensures device { IsErrOf result MbrFault.Device → Rose (B.faults disk.old) (B.faults disk.new) }
 {
     let mut bytes = [0; SECTOR];
@@ -161,8 +161,8 @@ fn step<B: Blocks>(disk: &mut B, extended: &Slot, walk: &mut Walk, at: u64) -> R
     ensures read { B.only_read disk.old disk.new }
     ensures within { OnOk result (IsWithin extended.now walk.new) }
     ensures more { OnOk result (length walk.new.places.items ≡ length walk.old.places.items + 1) }
-    ensures walked { IsTrue B.tells → IsWalkTo (B.image disk.old) extended.now walk.old at → OnOk result (IsWalk (B.image disk.old) extended.now walk.new) }
-    ensures fault { IsTrue B.tells → IsWalkTo (B.image disk.old) extended.now walk.old at → IfErr result (λ fault. IsChainFault (B.image disk.old) extended.now fault) }
+    ensures walked { IsTrue B.tells → OnOk result (WalksOn (B.image disk.old) extended.now walk.old at walk.new) }
+    ensures fault { IsTrue B.tells → IfErr result (λ fault. WalkEnds (B.image disk.old) extended.now walk.old at fault) }
     ensures device { IsErrOf result MbrFault.Device → Rose (B.faults disk.old) (B.faults disk.new) }
 {
     let place = judge_place(extended, &walk.places, at)?;
@@ -180,8 +180,8 @@ pub(crate) fn read_chain<B: Blocks>(
     requires on_disk { end_of extended.now ≤ B.size disk.old }
     requires addressed { B.size disk.old ≤ 2 ^ 31 }
     ensures read { B.only_read disk.old disk.new }
-    ensures within { IfOk result (λ logicals. AreLogicalsIn extended.now logicals.items) }
-    ensures chained { IsTrue B.tells → IfOk result (λ logicals. AreChained (B.image disk.old) extended.now logicals.items) }
+    ensures within { IfOk result (λ all. AreLogicalsIn extended.now all.items) }
+    ensures chained { IsTrue B.tells → IfOk result (λ all. AreChained (B.image disk.old) extended.now all.items) }
     ensures fault { IsTrue B.tells → IfErr result (λ fault. IsChainFault (B.image disk.old) extended.now fault) }
     ensures device { IsErrOf result MbrFault.Device → Rose (B.faults disk.old) (B.faults disk.new) }
 {

@@ -21,11 +21,13 @@ pub struct Mbr {
 }
 
 impl Model for Mbr {
-    ghost use Rattle.mbr_table.specs.Mbr.{Table};
+    ghost use Rattle.mbr_table.specs.Mbr.{Table, AreWithin};
 
     ghost Value = { Table };
 
     ghost view = { λ m. record { head = m.head; slots = m.slots; logicals = m.logicals.items } };
+
+    ghost invariant = { λ m. AreWithin m.slots m.logicals.items };
 }
 
 impl Mbr {
@@ -45,7 +47,8 @@ impl Mbr {
 
     /// The logical partitions, in the order of their chain.
     pub fn logicals(&self) -> &[Logical]
-        ensures { result.now ≡ self.now.logicals }
+        ensures logicals { result.now ≡ self.now.logicals }
+        ensures within { AreWithin self.now.slots self.now.logicals }
     {
         self.logicals.as_slice()
     }
@@ -74,8 +77,8 @@ fn read_logicals<B: Blocks>(
     requires sound { IsSound (B.size disk.old) slots.now }
     requires addressed { B.size disk.old ≤ 2 ^ 31 }
     ensures read { B.only_read disk.old disk.new }
-    ensures within { IfOk result (λ logicals. AreWithin slots.now logicals.items) }
-    ensures logicals { IsTrue B.tells → IfOk result (λ logicals. AreLogicals (B.image disk.old) slots.now logicals.items) }
+    ensures within { IfOk result (λ all. AreWithin slots.now all.items) }
+    ensures logicals { IsTrue B.tells → IfOk result (λ all. AreLogicals (B.image disk.old) slots.now all.items) }
     ensures fault { IsTrue B.tells → IfErr result (λ fault. IsLogicalsFault (B.image disk.old) slots.now fault) }
     ensures device { IsErrOf result MbrFault.Device → Rose (B.faults disk.old) (B.faults disk.new) }
 {

@@ -3,7 +3,7 @@ ghost use Rattle.std.specs.Prelude.{◌≡◌, [], IsTrue, ◌↔◌, IfOk, IfEr
 ghost use Rattle.std.specs.List.{list_any, find};
 ghost use Rattle.mbr_table.specs.Signature.{HasSignature};
 ghost use Rattle.mbr_table.specs.Slot.{stands_in, holds_extended};
-ghost use Rattle.mbr_table.specs.Mbr.{IsProtective, IsSound, IsFirstBad, IsSectorTable, IsSectorFault, slots_of};
+ghost use Rattle.mbr_table.specs.Mbr.{IsProtective, IsSound, IsFirstBad, IsSectorTable, plain_table, IsSectorFault, slots_of};
 
 use crate::fault::MbrFault;
 use crate::slot::{Slot, slot_in};
@@ -69,7 +69,7 @@ pub(crate) fn extended_in(slots: &[Slot; 4]) -> Option<Slot>
 /// disk has no sector or this one doesn't end with 55 AA, and `Entry` where a slot is bad; no other fault
 /// comes.
 pub fn judge_sector(sectors: u64, sector: &[u8; 512]) -> Result<SectorTable, MbrFault>
-    ensures table { IfOk result (λ found. IsSectorTable sectors sector.now (record { head = found.head; slots = found.slots; logicals = [] })) }
+    ensures table { IfOk result (λ found. IsSectorTable sectors sector.now (plain_table found)) }
     ensures fault { IfErr result (λ fault. IsSectorFault sectors sector.now fault) }
 {
     if sectors == 0 || !has_signature(sector) {

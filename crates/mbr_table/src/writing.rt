@@ -3,13 +3,16 @@ ghost use Rattle.std.specs.Prelude.{◌≡◌, ℕ, ◌+◌, ◌<◌, ◌≤◌,
 ghost use Rattle.mbr_table.specs.Signature.{HasSignature};
 ghost use Rattle.mbr_table.specs.Slot.{slot_of, empty_slot, kept, entry_bytes, entry_of};
 ghost use Rattle.mbr_table.specs.Chain.{own_of, next_of};
-ghost use Rattle.mbr_table.specs.Record.{link_slot, link_entry_of, ebr_sector_of, ChainReadsBack};
+ghost use Rattle.mbr_table.specs.Record.{link_slot, link_entry_of, ebr_sector_of, ChainReadsBack, TableReadsBack};
 ghost use Rattle.mbr_table.specs.Mbr.{IsSectorTable, IsSound, ReadsBack, mbr_sector_of, table_of};
 
 use crate::slot::Slot;
 
 /// What stands in place of an address by cylinder, head and sector.
 const NO_ADDRESS: [u8; 3] = [0xFE, 0xFF, 0xFF];
+
+/// What ends a sector.
+const SIGNATURE: [u8; 2] = [0x55, 0xAA];
 
 /// The type of the slot that stands for the next record of a chain.
 const NEXT_RECORD: u8 = 0x05;
@@ -77,7 +80,7 @@ pub fn mbr_sector(head: &[u8; 446], slots: &[Slot; 4], out: &mut [u8; 512])
     for (i, slot) in slots.iter().enumerate() {
         put(out, 446 + 16 * i, &entry(slot));
     }
-    put(out, 510, &[0x55, 0xAA]);
+    put(out, 510, &SIGNATURE);
 }
 
 /// Makes the sector of an extended boot record. `own` is the slot of its logical partition, with `start`
@@ -94,10 +97,16 @@ pub fn ebr_sector(own: &Slot, next: Option<(u32, u32)>, out: &mut [u8; 512])
     put(out, 446, &entry(own));
     put(out, 462, &link_entry(next));
     put(out, 478, &[0; 32]);
-    put(out, 510, &[0x55, 0xAA]);
+    put(out, 510, &SIGNATURE);
 }
 
 /// The law that a chain which was written for logical partitions is read as them. A call does nothing.
 pub fn chain_reads_back()
     ensures { ChainReadsBack }
+{}
+
+/// The law that a disk in which a table was written, its sector 0 and its records, is read as that table. A
+/// call does nothing.
+pub fn table_reads_back()
+    ensures { TableReadsBack }
 {}
