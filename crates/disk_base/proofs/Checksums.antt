@@ -6,9 +6,9 @@ use Rattle.std.proofs.lemmas.Nat.{shr-shr, xor_shr, xor_lt, and_mask}
 use Rattle.std.specs.Int.Bits.{xor_add_and, xor_assoc as bit_xor_assoc, xor_self as bit_xor_self, xor_zero_r}
 use Rattle.std.proofs.lemmas.Grind.{flat_map-append}
 use Rattle.std.proofs.lemmas.List.{take_more}
-use Rattle.disk_base.specs.Checksum.{xor, plus, zeros, shifted, scaled, bits, message, IsRemainder, Leaves, IsTable, IsChecksum, IsCrc32}
-use Rattle.disk_base.specs.declared.checksum_table.TheConstants.{CRC32}
-use Rattle.disk_base.proofs.Polynomials.{plus-nil, plus_self, plus_comm, plus_assoc, plus_swap, plus-append, zeros_plus, zeros_zeros, length-zeros, length-plus, length-step, run-append, step, run, dividend, xor-false, one_remainder, remainder_of_division}
+use Rattle.disk_base.specs.Checksum.{xor, plus, zeros, shifted, scaled, bits, message, IsRemainder, Leaves, IsTable, IsChecksum, IsCrc32, IsCrc32c, IsCrc32Lvm, OneChecksum, rest_with, rest_after, number_of, left_of, checksum_of, castagnoli, ieee_802_3}
+use Rattle.disk_base.specs.declared.checksum_table.TheConstants.{CRC32, CRC32C}
+use Rattle.disk_base.proofs.Polynomials.{plus-nil, plus_self, plus_comm, plus_assoc, plus_swap, plus-append, zeros_plus, zeros_zeros, length-zeros, length-plus, length-rest_with, length-rest_after, rest_after-append, dividend, xor-false, one_remainder, remainder_of_division}
 
 -- ---- the bits of a number
 
@@ -106,21 +106,21 @@ plus_front xs [] us le = plus-nil (xs ++ us) ∙ ap (λ (l : List Bool). l ++ us
 plus_front [] (y ∷ ys) us le = absurd (omega arith)
 plus_front (x ∷ xs) (y ∷ ys) us le = ap (λ (l : List Bool). xor x y ∷ l) (plus_front xs ys us (omega arith))
 
-absorbed_step : (p s m : List Bool) (x b : Bool) → length m ≤ length s → plus (step p (x ∷ s) b) m ≡ step p (xor x b ∷ plus s m) false
-unfolding step
+absorbed_step : (p s m : List Bool) (x b : Bool) → length m ≤ length s → plus (rest_with p (x ∷ s) b) m ≡ rest_with p (xor x b ∷ plus s m) false
+unfolding rest_with
 absorbed_step p s m x b le =
     let q : List Bool = scaled (xor x b) p in
     plus_assoc (s ++ false ∷ []) q m ∙ ap (plus (s ++ false ∷ [])) (plus_comm q m) ∙ sym (plus_assoc (s ++ false ∷ []) m q)
     ∙ ap (λ (l : List Bool). plus l q) (plus_front s m (false ∷ []) le)
     ∙ ap (λ (c : Bool). plus (plus s m ++ false ∷ []) (scaled c p)) (sym (xor-false (xor x b)))
 
-absorbed : (p s m : List Bool) → length m ≤ length s → length s ≡ length p → run p s m ≡ run p (plus s m) (zeros (length m))
-unfolding run plus
+absorbed : (p s m : List Bool) → length m ≤ length s → length s ≡ length p → rest_after p s m ≡ rest_after p (plus s m) (zeros (length m))
+unfolding rest_after plus
 absorbed p s [] le long = sym (plus-nil s)
 absorbed p [] (b ∷ m) le long = absurd (omega arith)
 absorbed p (x ∷ s) (b ∷ m) le long =
-    absorbed p (step p (x ∷ s) b) m (omega (arith, length-step p (x ∷ s) b long)) (length-step p (x ∷ s) b long)
-    ∙ ap (λ (l : List Bool). run p l (zeros (length m))) (absorbed_step p s m x b (omega arith))
+    absorbed p (rest_with p (x ∷ s) b) m (omega (arith, length-rest_with p (x ∷ s) b long)) (length-rest_with p (x ∷ s) b long)
+    ∙ ap (λ (l : List Bool). rest_after p l (zeros (length m))) (absorbed_step p s m x b (omega arith))
 
 -- what is left of a sum
 scaled-xor : (x y : Bool) (p : List Bool) → scaled (xor x y) p ≡ plus (scaled x p) (scaled y p)
@@ -129,8 +129,8 @@ scaled-xor true false p = sym (plus_comm p (zeros (length p)) ∙ zeros_plus (le
 scaled-xor false true p = sym (zeros_plus (length p) p (omega arith))
 scaled-xor false false p = sym (zeros_zeros (length p))
 
-linear_step : (p xs ys : List Bool) → length xs ≡ length p → length ys ≡ length p → step p (plus xs ys) false ≡ plus (step p xs false) (step p ys false)
-unfolding step plus
+linear_step : (p xs ys : List Bool) → length xs ≡ length p → length ys ≡ length p → rest_with p (plus xs ys) false ≡ plus (rest_with p xs false) (rest_with p ys false)
+unfolding rest_with plus
 linear_step p [] [] long long' = refl
 linear_step p [] (y ∷ ys) long long' = absurd (omega arith)
 linear_step p (x ∷ xs) [] long long' = absurd (omega arith)
@@ -142,30 +142,30 @@ linear_step p (x ∷ xs) (y ∷ ys) long long' =
     ∙ ap (λ (c : Bool). plus (plus (xs ++ false ∷ []) (scaled c p)) (plus (ys ++ false ∷ []) (scaled y p))) (sym (xor-false x))
     ∙ ap (λ (c : Bool). plus (plus (xs ++ false ∷ []) (scaled (xor x false) p)) (plus (ys ++ false ∷ []) (scaled c p))) (sym (xor-false y))
 
-linear : (p xs ys : List Bool) (k : ℕ) → length xs ≡ length p → length ys ≡ length p → run p (plus xs ys) (zeros k) ≡ plus (run p xs (zeros k)) (run p ys (zeros k))
-unfolding run
+linear : (p xs ys : List Bool) (k : ℕ) → length xs ≡ length p → length ys ≡ length p → rest_after p (plus xs ys) (zeros k) ≡ plus (rest_after p xs (zeros k)) (rest_after p ys (zeros k))
+unfolding rest_after
 linear p xs ys zero long long' = refl
 linear p xs ys (suc k) long long' =
-    ap (λ (l : List Bool). run p l (zeros k)) (linear_step p xs ys long long')
-    ∙ linear p (step p xs false) (step p ys false) k (length-step p xs false long) (length-step p ys false long')
+    ap (λ (l : List Bool). rest_after p l (zeros k)) (linear_step p xs ys long long')
+    ∙ linear p (rest_with p xs false) (rest_with p ys false) k (length-rest_with p xs false long) (length-rest_with p ys false long')
 
 -- leading zeros go one by one
-moved_up : (p xs : List Bool) (k : ℕ) → length xs + k ≡ length p → run p (zeros k ++ xs) (zeros k) ≡ xs ++ zeros k
-unfolding run step
+moved_up : (p xs : List Bool) (k : ℕ) → length xs + k ≡ length p → rest_after p (zeros k ++ xs) (zeros k) ≡ xs ++ zeros k
+unfolding rest_after rest_with
 moved_up p xs zero long = sym (append-nil xs)
 moved_up p xs (suc k) long =
     let all : List Bool = (zeros k ++ xs) ++ false ∷ [] in
     let size : length all ≡ length p = omega (arith, length-append (zeros k ++ xs) (false ∷ []), length-append (zeros k) xs, length-zeros k) in
     let same : plus all (zeros (length p)) ≡ zeros k ++ (xs ++ false ∷ []) =
     plus_comm all (zeros (length p)) ∙ zeros_plus (length p) all (omega arith) ∙ append_assoc (zeros k) xs (false ∷ []) in
-    ap (λ (l : List Bool). run p l (zeros k)) same
+    ap (λ (l : List Bool). rest_after p l (zeros k)) same
     ∙ moved_up p (xs ++ false ∷ []) k (omega (arith, length-append xs (false ∷ [])))
     ∙ append_assoc xs (false ∷ []) (zeros k)
 
 -- ---- a whole byte
 
 left_of_run : (polynomial start : ℕ) (bytes : List ℕ)
-    → IsRemainder (plus (shifted (message bytes) 32) (shifted (bits 32 start) (length (message bytes)))) (true ∷ bits 32 polynomial) (run (bits 32 polynomial) (bits 32 start) (message bytes))
+    → IsRemainder (plus (shifted (message bytes) 32) (shifted (bits 32 start) (length (message bytes)))) (true ∷ bits 32 polynomial) (rest_after (bits 32 polynomial) (bits 32 start) (message bytes))
 unfolding dividend
 left_of_run polynomial start bytes =
     let p : List Bool = bits 32 polynomial in
@@ -173,26 +173,26 @@ left_of_run polynomial start bytes =
     let m : List Bool = message bytes in
     let long : length p ≡ 32 = length-bits 32 polynomial in
     let same : length s ≡ length p = length-bits 32 start ∙ sym long in
-    let whole : IsRemainder (plus (shifted m (length p)) (shifted s (length m))) (true ∷ p) (run p s m) = remainder_of_division p s m (omega arith) same in
-    subst (λ (n : ℕ). IsRemainder (plus (shifted m n) (shifted s (length m))) (true ∷ p) (run p s m)) long whole
+    let whole : IsRemainder (plus (shifted m (length p)) (shifted s (length m))) (true ∷ p) (rest_after p s m) = remainder_of_division p s m (omega arith) same in
+    subst (λ (n : ℕ). IsRemainder (plus (shifted m n) (shifted s (length m))) (true ∷ p) (rest_after p s m)) long whole
 
-pub leaves_run : (polynomial start : ℕ) (bytes : List ℕ) (rest : ℕ) → bits 32 rest ≡ run (bits 32 polynomial) (bits 32 start) (message bytes) → Leaves polynomial start bytes rest
+pub leaves_run : (polynomial start : ℕ) (bytes : List ℕ) (rest : ℕ) → bits 32 rest ≡ rest_after (bits 32 polynomial) (bits 32 start) (message bytes) → Leaves polynomial start bytes rest
 leaves_run polynomial start bytes rest is =
     subst (λ (r : List Bool). IsRemainder (plus (shifted (message bytes) 32) (shifted (bits 32 start) (length (message bytes)))) (true ∷ bits 32 polynomial) r) (sym is) (left_of_run polynomial start bytes)
 
 -- what is left is one number
-pub run_leaves : (polynomial start : ℕ) (bytes : List ℕ) (rest : ℕ) → Leaves polynomial start bytes rest → bits 32 rest ≡ run (bits 32 polynomial) (bits 32 start) (message bytes)
+pub run_leaves : (polynomial start : ℕ) (bytes : List ℕ) (rest : ℕ) → Leaves polynomial start bytes rest → bits 32 rest ≡ rest_after (bits 32 polynomial) (bits 32 start) (message bytes)
 run_leaves polynomial start bytes rest leaves =
     let p : List Bool = bits 32 polynomial in
     let s : List Bool = bits 32 start in
     let m : List Bool = message bytes in
     let long : length p ≡ 32 = length-bits 32 polynomial in
     let same : length s ≡ length p = length-bits 32 start ∙ sym long in
-    one_remainder (plus (shifted m 32) (shifted s (length m))) p (bits 32 rest) (run p s m) leaves (left_of_run polynomial start bytes)
+    one_remainder (plus (shifted m 32) (shifted s (length m))) p (bits 32 rest) (rest_after p s m) leaves (left_of_run polynomial start bytes)
 
 -- a byte is the low bits of what was left and of the byte, by a word of the table, and the high bits one byte on
 byte_run : (p lo hi m : List Bool) → length p ≡ 32 → length lo ≡ 8 → length hi ≡ 24 → length m ≡ 8
-    → run p (lo ++ hi) m ≡ plus (run p (plus lo m ++ zeros 24) (zeros 8)) (hi ++ zeros 8)
+    → rest_after p (lo ++ hi) m ≡ plus (rest_after p (plus lo m ++ zeros 24) (zeros 8)) (hi ++ zeros 8)
 byte_run p lo hi m p-long lo-long hi-long m-long =
     let w : List Bool = plus lo m in
     let w-long : length w ≡ 8 = length-plus lo m (lo-long ∙ sym m-long) ∙ lo-long in
@@ -207,12 +207,12 @@ byte_run p lo hi m p-long lo-long hi-long m-long =
     let a-long : length a ≡ length p = omega (arith, length-append w (zeros 24), length-zeros 24) in
     let b-long : length b ≡ length p = omega (arith, length-append (zeros 8) hi, length-zeros 8) in
     absorbed p (lo ++ hi) m (omega arith) (all ∙ sym p-long)
-    ∙ ap (λ (l : List Bool). run p l (zeros (length m))) (low ∙ parts)
-    ∙ ap (λ (k : ℕ). run p (plus a b) (zeros k)) m-long
+    ∙ ap (λ (l : List Bool). rest_after p l (zeros (length m))) (low ∙ parts)
+    ∙ ap (λ (k : ℕ). rest_after p (plus a b) (zeros k)) m-long
     ∙ linear p a b 8 a-long b-long
-    ∙ ap (plus (run p a (zeros 8))) (moved_up p hi 8 (omega arith))
+    ∙ ap (plus (rest_after p a (zeros 8))) (moved_up p hi 8 (omega arith))
 
-byte_alone : (polynomial v : ℕ) → run (bits 32 polynomial) (bits 32 0) (message (v ∷ [])) ≡ run (bits 32 polynomial) (bits 8 v ++ zeros 24) (zeros 8)
+byte_alone : (polynomial v : ℕ) → rest_after (bits 32 polynomial) (bits 32 0) (message (v ∷ [])) ≡ rest_after (bits 32 polynomial) (bits 8 v ++ zeros 24) (zeros 8)
 byte_alone polynomial v =
     let p : List Bool = bits 32 polynomial in
     let w : List Bool = bits 8 v in
@@ -222,18 +222,18 @@ byte_alone polynomial v =
     let added : plus (zeros 32) w ≡ w ++ zeros 24 =
     ap (plus (zeros 32)) (sym (append-nil w)) ∙ plus-append (zeros 8) (zeros 24) w [] (length-zeros 8 ∙ sym w-long)
     ∙ ap (λ (l : List Bool). l ++ plus (zeros 24) []) (zeros_plus 8 w (omega arith)) ∙ ap (λ (l : List Bool). w ++ l) (plus-nil (zeros 24)) in
-    ap (run p (bits 32 0)) one
-    ∙ ap (λ (s : List Bool). run p s w) empty
+    ap (rest_after p (bits 32 0)) one
+    ∙ ap (λ (s : List Bool). rest_after p s w) empty
     ∙ absorbed p (zeros 32) w (omega (arith, length-zeros 32)) (length-zeros 32 ∙ sym (length-bits 32 polynomial))
-    ∙ ap (λ (s : List Bool). run p s (zeros (length w))) added
-    ∙ ap (λ (k : ℕ). run p (w ++ zeros 24) (zeros k)) w-long
+    ∙ ap (λ (s : List Bool). rest_after p s (zeros (length w))) added
+    ∙ ap (λ (k : ℕ). rest_after p (w ++ zeros 24) (zeros k)) w-long
 
 -- a word of the table is what a byte alone leaves
-word_run : (polynomial v word : ℕ) → Leaves polynomial 0 (v ∷ []) word → bits 32 word ≡ run (bits 32 polynomial) (bits 8 v ++ zeros 24) (zeros 8)
+word_run : (polynomial v word : ℕ) → Leaves polynomial 0 (v ∷ []) word → bits 32 word ≡ rest_after (bits 32 polynomial) (bits 8 v ++ zeros 24) (zeros 8)
 word_run polynomial v word leaves = run_leaves polynomial 0 (v ∷ []) word leaves ∙ byte_alone polynomial v
 
 pub one_byte : (polynomial rest byte v word : ℕ) → rest < 2 ^ 32 → v ≡ bit_and (bit_xor rest byte) 255 → Leaves polynomial 0 (v ∷ []) word
-    → bits 32 (bit_xor word (rest / 256)) ≡ run (bits 32 polynomial) (bits 32 rest) (bits 8 byte)
+    → bits 32 (bit_xor word (rest / 256)) ≡ rest_after (bits 32 polynomial) (bits 32 rest) (bits 8 byte)
 one_byte polynomial rest byte v word small v-is leaves =
     let p : List Bool = bits 32 polynomial in
     let lo : List Bool = bits 8 rest in
@@ -246,15 +246,15 @@ one_byte polynomial rest byte v word small v-is leaves =
     let high : bits 32 (rest / 256) ≡ hi ++ zeros 8 = bits_past 24 8 (rest / 256) 32 refl (omega arith) in
     bits-xor 32 word (rest / 256)
     ∙ ap (plus (bits 32 word)) high
-    ∙ ap (λ (l : List Bool). plus l (hi ++ zeros 8)) (word_run polynomial v word leaves ∙ ap (λ (l : List Bool). run p (l ++ zeros 24) (zeros 8)) low)
+    ∙ ap (λ (l : List Bool). plus l (hi ++ zeros 8)) (word_run polynomial v word leaves ∙ ap (λ (l : List Bool). rest_after p (l ++ zeros 24) (zeros 8)) low)
     ∙ sym (byte_run p lo hi m (length-bits 32 polynomial) (length-bits 8 rest) (length-bits 24 (rest / 256)) (length-bits 8 byte))
-    ∙ ap (λ (l : List Bool). run p l m) (sym whole)
+    ∙ ap (λ (l : List Bool). rest_after p l m) (sym whole)
 
 -- one byte more of a message
 pub byte_more : (polynomial start : ℕ) (bytes table : List ℕ) (i rest word byte : ℕ) → i < length bytes → rest < 2 ^ 32 → IsTable polynomial table
     → byte ≡ get_or bytes i 0 → word ≡ get_or table (bit_and (bit_xor rest byte) 255) 0
-    → bits 32 rest ≡ run (bits 32 polynomial) (bits 32 start) (message (take i bytes))
-    → bits 32 (bit_xor word (rest / 256)) ≡ run (bits 32 polynomial) (bits 32 start) (message (take (i + 1) bytes))
+    → bits 32 rest ≡ rest_after (bits 32 polynomial) (bits 32 start) (message (take i bytes))
+    → bits 32 (bit_xor word (rest / 256)) ≡ rest_after (bits 32 polynomial) (bits 32 start) (message (take (i + 1) bytes))
 byte_more polynomial start bytes table i rest word byte lt small sound byte-is word-is so_far =
     let p : List Bool = bits 32 polynomial in
     let s : List Bool = bits 32 start in
@@ -264,9 +264,9 @@ byte_more polynomial start bytes table i rest word byte lt small sound byte-is w
     ap message (take_more bytes i 0 lt) ∙ flat_map-append (bits 8) (take i bytes) (get_or bytes i 0 ∷ [])
     ∙ ap (λ (l : List Bool). message (take i bytes) ++ l) (append-nil (bits 8 (get_or bytes i 0)) ∙ ap (bits 8) (sym byte-is)) in
     one_byte polynomial rest byte v word small refl leaves
-    ∙ ap (λ (r : List Bool). run p r (bits 8 byte)) so_far
-    ∙ sym (run-append p s (message (take i bytes)) (bits 8 byte))
-    ∙ ap (run p s) (sym more)
+    ∙ ap (λ (r : List Bool). rest_after p r (bits 8 byte)) so_far
+    ∙ sym (rest_after-append p s (message (take i bytes)) (bits 8 byte))
+    ∙ ap (rest_after p s) (sym more)
 
 -- ---- the table
 
@@ -277,8 +277,8 @@ scaled-bits : (c : Bool) (n p : ℕ) → scaled c (bits n p) ≡ bits n (if c th
 scaled-bits true n p = refl
 scaled-bits false n p = ap zeros (length-bits n p) ∙ sym (bits-zero n)
 
-half_step : (n p x : ℕ) → x < 2 ^ suc n → bits (suc n) (half p x) ≡ step (bits (suc n) p) (bits (suc n) x) false
-unfolding half step
+half_step : (n p x : ℕ) → x < 2 ^ suc n → bits (suc n) (half p x) ≡ rest_with (bits (suc n) p) (bits (suc n) x) false
+unfolding half rest_with
 half_step n p x small =
     let odd : Bool = nat_eq (x % 2) 1 in
     let first : bits (suc n) x ≡ odd ∷ bits n (x / 2) = bits-suc n x in
@@ -286,7 +286,7 @@ half_step n p x small =
     bits-xor (suc n) (x / 2) (if odd then p else 0)
     ∙ ap (λ (l : List Bool). plus l (bits (suc n) (if odd then p else 0))) more
     ∙ ap (plus (bits n (x / 2) ++ false ∷ [])) (sym (ap (λ (c : Bool). scaled c (bits (suc n) p)) (xor-false odd) ∙ scaled-bits odd (suc n) p))
-    ∙ ap (λ (l : List Bool). step (bits (suc n) p) l false) (sym first)
+    ∙ ap (λ (l : List Bool). rest_with (bits (suc n) p) l false) (sym first)
 
 half_small : (p x : ℕ) → p < 2 ^ 32 → x < 2 ^ 32 → half p x < 2 ^ 32
 unfolding half
@@ -296,18 +296,18 @@ halves : ℕ → ℕ → ℕ → ℕ
 halves p zero x = x
 halves p (suc k) x = halves p k (half p x)
 
-halves_run : (p k x : ℕ) → p < 2 ^ 32 → x < 2 ^ 32 → bits 32 (halves p k x) ≡ run (bits 32 p) (bits 32 x) (zeros k)
-unfolding halves run
+halves_run : (p k x : ℕ) → p < 2 ^ 32 → x < 2 ^ 32 → bits 32 (halves p k x) ≡ rest_after (bits 32 p) (bits 32 x) (zeros k)
+unfolding halves rest_after
 halves_run p zero x p-small small = refl
 halves_run p (suc k) x p-small small =
-    halves_run p k (half p x) p-small (half_small p x p-small small) ∙ ap (λ (l : List Bool). run (bits 32 p) l (zeros k)) (half_step 31 p x small)
+    halves_run p k (half p x) p-small (half_small p x p-small small) ∙ ap (λ (l : List Bool). rest_after (bits 32 p) l (zeros k)) (half_step 31 p x small)
 
 word_leaves : (p v word : ℕ) → p < 2 ^ 32 → v < 256 → word ≡ halves p 8 v → Leaves p 0 (v ∷ []) word
 word_leaves p v word p-small small is =
     let w : List Bool = bits 8 v in
     let wide : bits 32 v ≡ w ++ zeros 24 = bits_past 8 24 v 32 refl small in
     leaves_run p 0 (v ∷ []) word
-    (ap (bits 32) is ∙ halves_run p 8 v p-small (omega arith) ∙ ap (λ (l : List Bool). run (bits 32 p) l (zeros 8)) wide ∙ sym (byte_alone p v))
+    (ap (bits 32) is ∙ halves_run p 8 v p-small (omega arith) ∙ ap (λ (l : List Bool). rest_after (bits 32 p) l (zeros 8)) wide ∙ sym (byte_alone p v))
 
 -- a fact of each number below n, by computation
 upto : (ℕ → Bool) → ℕ → Bool
@@ -333,18 +333,22 @@ table_sound : (p : ℕ) (table : List ℕ) → p < 2 ^ 32 → upto (λ v. nat_eq
 table_sound p table p-small tested v small =
     word_leaves p v _ p-small small (eqb-true _ _ (upto_sound (λ v. nat_eq (get_or table v 0) (halves p 8 v)) 256 tested v small))
 
-pub crc32_table : IsTable 0xEDB88320 CRC32
+pub crc32_table : IsTable ieee_802_3 CRC32
 unfolding upto halves half
-crc32_table = table_sound 0xEDB88320 CRC32 (lit< tt) refl
+crc32_table = table_sound ieee_802_3 CRC32 (lit< tt) refl
+
+pub crc32c_table : IsTable castagnoli CRC32C
+unfolding upto halves half
+crc32c_table = table_sound castagnoli CRC32C (lit< tt) refl
 
 -- ---- one checksum
 
 undone : (a b : ℕ) → bit_xor (bit_xor a b) b ≡ a
 undone a b = bit_xor_assoc a b b ∙ ap (bit_xor a) (bit_xor_self b) ∙ xor_zero_r a
 
-pub checksum_of : (polynomial start inversion : ℕ) (bytes : List ℕ) (rest : ℕ) → rest < 2 ^ 32 → inversion < 2 ^ 32
+pub as_checksum : (polynomial start inversion : ℕ) (bytes : List ℕ) (rest : ℕ) → rest < 2 ^ 32 → inversion < 2 ^ 32
     → Leaves polynomial start bytes rest → IsChecksum polynomial start inversion bytes (bit_xor rest inversion)
-checksum_of polynomial start inversion bytes rest fits small leaves = record {
+as_checksum polynomial start inversion bytes rest fits small leaves = record {
   fits = xor_lt 32 rest inversion fits small;
   left = subst (λ (r : ℕ). Leaves polynomial start bytes r) (sym (undone rest inversion)) leaves;
 }
@@ -358,4 +362,84 @@ one_checksum polynomial start inversion bytes a b small is is' =
     sym (undone a inversion) ∙ ap (λ (x : ℕ). bit_xor x inversion) same ∙ undone b inversion
 
 pub one_crc32 : (bytes : List ℕ) (a b : ℕ) → IsCrc32 bytes a → IsCrc32 bytes b → a ≡ b
-one_crc32 bytes a b is is' = one_checksum 0xEDB88320 0xFFFFFFFF 0xFFFFFFFF bytes a b (lit< tt) is is'
+one_crc32 bytes a b is is' = one_checksum ieee_802_3 0xFFFFFFFF 0xFFFFFFFF bytes a b (lit< tt) is is'
+
+-- ---- the checksums as functions
+
+number_bits : (bs : List Bool) → bits (length bs) (number_of bs) ≡ bs
+unfolding bits number_of
+number_bits [] = refl
+number_bits (true ∷ bs) =
+    let odd : (1 + 2 * number_of bs) % 2 ≡ 1 = omega arith in
+    let half : (1 + 2 * number_of bs) / 2 ≡ number_of bs = omega arith in
+    ap (λ (d : ℕ). nat_eq d 1 ∷ bits (length bs) ((1 + 2 * number_of bs) / 2)) odd
+    ∙ ap (λ (x : ℕ). true ∷ bits (length bs) x) half ∙ ap (λ (l : List Bool). true ∷ l) (number_bits bs)
+number_bits (false ∷ bs) =
+    let even : (0 + 2 * number_of bs) % 2 ≡ 0 = omega arith in
+    let half : (0 + 2 * number_of bs) / 2 ≡ number_of bs = omega arith in
+    ap (λ (d : ℕ). nat_eq d 1 ∷ bits (length bs) ((0 + 2 * number_of bs) / 2)) even
+    ∙ ap (λ (x : ℕ). false ∷ bits (length bs) x) half ∙ ap (λ (l : List Bool). false ∷ l) (number_bits bs)
+
+number_small : (bs : List Bool) → number_of bs < 2 ^ length bs
+unfolding number_of
+number_small [] = omega arith
+number_small (true ∷ bs) = omega (arith, number_small bs, pow-suc 2 (length bs))
+number_small (false ∷ bs) = omega (arith, number_small bs, pow-suc 2 (length bs))
+
+number_back : (n x : ℕ) → x < 2 ^ n → number_of (bits n x) ≡ x
+number_back n x small =
+    let long : length (bits n x) ≡ n = length-bits n x in
+    let back : bits n (number_of (bits n x)) ≡ bits n x = ap (λ (m : ℕ). bits m (number_of (bits n x))) (sym long) ∙ number_bits (bits n x) in
+    same_bits n _ x (subst (λ (m : ℕ). number_of (bits n x) < 2 ^ m) long (number_small (bits n x))) small back
+
+length-left : (polynomial start : ℕ) (bytes : List ℕ) → length (rest_after (bits 32 polynomial) (bits 32 start) (message bytes)) ≡ 32
+length-left polynomial start bytes =
+    length-rest_after (bits 32 polynomial) (bits 32 start) (message bytes) (length-bits 32 start ∙ sym (length-bits 32 polynomial)) ∙ length-bits 32 polynomial
+
+pub left_small : (polynomial start : ℕ) (bytes : List ℕ) → left_of polynomial start bytes < 2 ^ 32
+unfolding left_of
+left_small polynomial start bytes =
+    subst (λ (m : ℕ). left_of polynomial start bytes < 2 ^ m) (length-left polynomial start bytes) (number_small (rest_after (bits 32 polynomial) (bits 32 start) (message bytes)))
+
+left_bits : (polynomial start : ℕ) (bytes : List ℕ) → bits 32 (left_of polynomial start bytes) ≡ rest_after (bits 32 polynomial) (bits 32 start) (message bytes)
+unfolding left_of
+left_bits polynomial start bytes =
+    ap (λ (m : ℕ). bits m (left_of polynomial start bytes)) (sym (length-left polynomial start bytes)) ∙ number_bits (rest_after (bits 32 polynomial) (bits 32 start) (message bytes))
+
+pub left_is : (polynomial start : ℕ) (bytes : List ℕ) (rest : ℕ) → rest < 2 ^ 32 → bits 32 rest ≡ rest_after (bits 32 polynomial) (bits 32 start) (message bytes)
+    → rest ≡ left_of polynomial start bytes
+unfolding left_of
+left_is polynomial start bytes rest small is = sym (number_back 32 rest small) ∙ ap number_of is
+
+-- a message in two parts
+pub left_more : (polynomial start : ℕ) (xs ys : List ℕ) → left_of polynomial start (xs ++ ys) ≡ left_of polynomial (left_of polynomial start xs) ys
+unfolding left_of
+left_more polynomial start xs ys =
+    let p : List Bool = bits 32 polynomial in
+    ap (λ (m : List Bool). number_of (rest_after p (bits 32 start) m)) (flat_map-append (bits 8) xs ys)
+    ∙ ap number_of (rest_after-append p (bits 32 start) (message xs) (message ys))
+    ∙ ap (λ (s : List Bool). number_of (rest_after p s (message ys))) (sym (left_bits polynomial start xs))
+
+pub checksum_is : (polynomial start inversion : ℕ) (bytes : List ℕ) → inversion < 2 ^ 32
+    → IsChecksum polynomial start inversion bytes (checksum_of polynomial start inversion bytes)
+unfolding checksum_of
+checksum_is polynomial start inversion bytes small =
+    as_checksum polynomial start inversion bytes (left_of polynomial start bytes) (left_small polynomial start bytes) small
+    (leaves_run polynomial start bytes _ (left_bits polynomial start bytes))
+
+pub all_checksums : OneChecksum
+all_checksums polynomial start inversion bytes small = (
+  checksum_is polynomial start inversion bytes small,
+  λ other is. one_checksum polynomial start inversion bytes other _ small is (checksum_is polynomial start inversion bytes small),
+)
+
+-- what is left, with the inversion added
+pub inverted : (polynomial start inversion : ℕ) (bytes : List ℕ) (rest : ℕ) → rest ≡ left_of polynomial start bytes
+    → bit_xor rest inversion ≡ checksum_of polynomial start inversion bytes
+unfolding checksum_of
+inverted polynomial start inversion bytes rest is = ap (λ (r : ℕ). bit_xor r inversion) is
+
+-- nothing is added
+pub not_inverted : (polynomial start : ℕ) (bytes : List ℕ) (rest : ℕ) → rest ≡ left_of polynomial start bytes → rest ≡ checksum_of polynomial start 0 bytes
+unfolding checksum_of
+not_inverted polynomial start bytes rest is = is ∙ sym (xor_zero_r (left_of polynomial start bytes))

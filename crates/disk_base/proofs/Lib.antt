@@ -4,3 +4,5 @@ pub mod Moments
 pub mod Polynomials
 pub mod Replaying
 pub mod Stoppings
+pub mod Fieldwork
+pub mod Uses

@@ -1,7 +1,7 @@
 -- Division of polynomials over two elements: bit by bit from the highest power on, with one remainder alone.
 use Rattle.std.proofs.Common.{◌≡◌, ℕ, zero, suc, ◌+◌, ◌≤◌, Bool, true, false, List, [], ◌∷◌, ◌++◌, length, refl, sym, ap, ◌∙◌, append_assoc, append-nil, arith, length-append}
 use Rattle.std.proofs.lemmas.List.{length-replicate}
-use Rattle.disk_base.specs.Checksum.{xor, plus, zeros, shifted, scaled, times, IsRemainder}
+use Rattle.disk_base.specs.Checksum.{xor, plus, zeros, shifted, scaled, times, IsRemainder, rest_with, rest_after}
 
 -- ---- coefficients
 
@@ -98,16 +98,7 @@ length-zeros n = length-replicate n false
 pub zeros_zeros : (n : ℕ) → plus (zeros n) (zeros n) ≡ zeros n
 zeros_zeros n = zeros_plus n (zeros n) (omega (arith, length-zeros n))
 
--- ---- one step of a division
-
--- one more coefficient b of the dividend, of which s is what was left so far: the first coefficient goes
-unfoldable pub step : List Bool → List Bool → Bool → List Bool
-step p [] b = []
-step p (s ∷ ss) b = plus (ss ++ false ∷ []) (scaled (xor s b) p)
-
-unfoldable pub run : List Bool → List Bool → List Bool → List Bool
-run p s [] = s
-run p s (b ∷ m) = run p (step p s b) m
+-- ---- one rest_with of a division
 
 length-scaled : (c : Bool) (xs : List Bool) → length (scaled c xs) ≡ length xs
 length-scaled true xs = refl
@@ -117,22 +108,22 @@ scaled-cons : (c : Bool) (xs : List Bool) → scaled c (true ∷ xs) ≡ c ∷ s
 scaled-cons true xs = refl
 scaled-cons false xs = refl
 
-pub length-step : (p s : List Bool) (b : Bool) → length s ≡ length p → length (step p s b) ≡ length p
-unfolding step
-length-step p [] b same = same
-length-step p (s ∷ ss) b same =
+pub length-rest_with : (p s : List Bool) (b : Bool) → length s ≡ length p → length (rest_with p s b) ≡ length p
+unfolding rest_with
+length-rest_with p [] b same = same
+length-rest_with p (s ∷ ss) b same =
     let long : length (ss ++ false ∷ []) ≡ length p = omega (arith, length-append ss (false ∷ [])) in
     length-plus _ _ (long ∙ sym (length-scaled (xor s b) p)) ∙ long
 
-pub length-run : (p s m : List Bool) → length s ≡ length p → length (run p s m) ≡ length p
-unfolding run
-length-run p s [] same = same
-length-run p s (b ∷ m) same = length-run p (step p s b) m (length-step p s b same)
+pub length-rest_after : (p s m : List Bool) → length s ≡ length p → length (rest_after p s m) ≡ length p
+unfolding rest_after
+length-rest_after p s [] same = same
+length-rest_after p s (b ∷ m) same = length-rest_after p (rest_with p s b) m (length-rest_with p s b same)
 
-pub run-append : (p s m n : List Bool) → run p s (m ++ n) ≡ run p (run p s m) n
-unfolding run
-run-append p s [] n = refl
-run-append p s (b ∷ m) n = run-append p (step p s b) m n
+pub rest_after-append : (p s m n : List Bool) → rest_after p s (m ++ n) ≡ rest_after p (rest_after p s m) n
+unfolding rest_after
+rest_after-append p s [] n = refl
+rest_after-append p s (b ∷ m) n = rest_after-append p (rest_with p s b) m n
 
 pub length-times : (q g : List Bool) (x : Bool) → length (times q (x ∷ g)) ≡ length q + length g
 unfolding times
@@ -152,13 +143,13 @@ dividend s m n = plus (shifted m n) (shifted s (length m))
 pub record Divided (p s m : List Bool) : Type 0 where
   pub quotient : List Bool
   pub width : length quotient ≡ length m
-  pub divides : dividend s m (length p) ≡ plus (times quotient (true ∷ p)) (zeros (length quotient) ++ run p s m)
+  pub divides : dividend s m (length p) ≡ plus (times quotient (true ∷ p)) (zeros (length quotient) ++ rest_after p s m)
 
 shuffle : (x m s : List Bool) → length x ≤ length (plus m s) → plus x (plus m (plus s x)) ≡ plus m s
 shuffle x m s le =
     ap (plus x) (sym (plus_assoc m s x) ∙ plus_comm (plus m s) x) ∙ gone x (plus m s) le
 
--- one step more, in front of a division to the end
+-- one rest_with more, in front of a division to the end
 divided_more : (p s m q r : List Bool) (c b : Bool) → length s + 1 ≡ length p → length q ≡ length m
     → dividend (plus (s ++ false ∷ []) (scaled c p)) m (length p) ≡ plus (times q (true ∷ p)) (zeros (length q) ++ r)
     → plus (m ++ zeros (length p)) (s ++ zeros (suc (length m))) ≡ plus (plus (scaled c p ++ zeros (length q)) (times q (true ∷ p))) (zeros (length q) ++ r)
@@ -191,7 +182,7 @@ head_and_tail p s m q r x b tail =
     rw (scaled-cons (xor x b) p) (ap (λ (h : Bool). h ∷ plus (m ++ zeros (length p)) (s ++ zeros (suc (length m)))) first ∙ ap (λ (l : List Bool). xor (xor (xor x b) false) false ∷ l) tail)
 
 pub divided : (p s m : List Bool) → 1 ≤ length p → length s ≡ length p → Divided p s m
-unfolding dividend run step times
+unfolding dividend rest_after rest_with times
 divided p s [] some long = record {
   quotient = [];
   width = refl;
@@ -200,12 +191,12 @@ divided p s [] some long = record {
 divided p [] (b ∷ m) some long = absurd (omega arith)
 divided p (x ∷ s) (b ∷ m) some long =
     let c : Bool = xor x b in
-    let ih = divided p (plus (s ++ false ∷ []) (scaled c p)) m some (length-step p (x ∷ s) b long) in
-    let tail = divided_more p s m ih.quotient (run p (plus (s ++ false ∷ []) (scaled c p)) m) c b (omega arith) ih.width ih.divides in
+    let ih = divided p (plus (s ++ false ∷ []) (scaled c p)) m some (length-rest_with p (x ∷ s) b long) in
+    let tail = divided_more p s m ih.quotient (rest_after p (plus (s ++ false ∷ []) (scaled c p)) m) c b (omega arith) ih.width ih.divides in
     record {
       quotient = c ∷ ih.quotient;
       width = ap suc ih.width;
-      divides = head_and_tail p s m ih.quotient (run p (plus (s ++ false ∷ []) (scaled c p)) m) x b tail;
+      divides = head_and_tail p s m ih.quotient (rest_after p (plus (s ++ false ∷ []) (scaled c p)) m) x b tail;
     }
 
 -- ---- there is one remainder
@@ -251,11 +242,11 @@ one_remainder n p r r' is is' =
     one_rest p is.quotient is'.quotient r r' (omega (arith, is.smaller)) (omega (arith, is'.smaller)) (omega (arith, is.width, is'.width, is.smaller, is'.smaller))
     (sym is.divides ∙ is'.divides)
 
-pub remainder_of_division : (p s m : List Bool) → 1 ≤ length p → length s ≡ length p → IsRemainder (dividend s m (length p)) (true ∷ p) (run p s m)
+pub remainder_of_division : (p s m : List Bool) → 1 ≤ length p → length s ≡ length p → IsRemainder (dividend s m (length p)) (true ∷ p) (rest_after p s m)
 unfolding dividend
 remainder_of_division p s m some long =
     let d = divided p s m some long in
-    let left : length (run p s m) ≡ length p = length-run p s m long in
+    let left : length (rest_after p s m) ≡ length p = length-rest_after p s m long in
     let low : length (m ++ zeros (length p)) ≡ length m + length p = omega (arith, length-append m (zeros (length p)), length-zeros (length p)) in
     let high : length (s ++ zeros (length m)) ≡ length m + length p = omega (arith, length-append s (zeros (length m)), length-zeros (length m)) in
     record {

@@ -1,6 +1,7 @@
 -- Checksums of 32 bits, as remainders of the division of polynomials over two elements. A polynomial is the list
 -- of its coefficients, highest power first. A byte or a number read from its lowest bit is such a list.
-use Rattle.std.specs.Prelude.{◌≡◌, ℕ, zero, suc, ◌+◌, ◌/◌, ◌%◌, ◌^◌, ◌<◌, Bool, true, false, not, nat_eq, if◌then◌else◌, List, [], ◌∷◌, ◌++◌, length, drop, replicate, slice_index, flat_map, bit_xor}
+use Rattle.std.specs.Prelude.{◌≡◌, ℕ, zero, suc, ◌+◌, ◌*◌, ◌/◌, ◌%◌, ◌^◌, ◌<◌, Bool, true, false, not, nat_eq, if◌then◌else◌, List, [], ◌∷◌, ◌++◌, length, drop, replicate, slice_index, flat_map, bit_xor}
+use Rattle.disk_base.specs.Image.{with_bytes}
 
 -- the sum of two coefficients
 abbrev pub xor : Bool → Bool → Bool
@@ -60,9 +61,67 @@ pub record IsChecksum (polynomial start inversion : ℕ) (bytes : List ℕ) (che
   pub fits : checksum < 2 ^ 32
   pub left : Leaves polynomial start bytes (bit_xor checksum inversion)
 
--- the checksum of the IEEE 802.3 polynomial
+-- the two generators in use, without their first coefficient: of IEEE 802.3, and Castagnoli's (RFC 3720, 12.1)
+abbrev pub ieee_802_3 : ℕ
+ieee_802_3 = 0xEDB88320
+
+abbrev pub castagnoli : ℕ
+castagnoli = 0x82F63B78
+
+-- the checksum of GUID partition tables (UEFI specification, 5.3.2)
 abbrev pub IsCrc32 : List ℕ → ℕ → Type 0
-IsCrc32 bytes checksum = IsChecksum 0xEDB88320 0xFFFFFFFF 0xFFFFFFFF bytes checksum
+IsCrc32 bytes checksum = IsChecksum ieee_802_3 0xFFFFFFFF 0xFFFFFFFF bytes checksum
+
+-- the checksum of LVM2's labels, headers and texts: another start, and nothing added at the end
+abbrev pub IsCrc32Lvm : List ℕ → ℕ → Type 0
+IsCrc32Lvm bytes checksum = IsChecksum ieee_802_3 0xF597A6CF 0 bytes checksum
+
+-- the checksum of the metadata of XFS
+abbrev pub IsCrc32c : List ℕ → ℕ → Type 0
+IsCrc32c bytes checksum = IsChecksum castagnoli 0xFFFFFFFF 0xFFFFFFFF bytes checksum
+
+-- ---- the same checksums as functions, so that a right one can be told by a test
+
+-- a division, coefficient by coefficient: one more coefficient of the dividend, of which `rest` was left so far
+unfoldable pub rest_with : List Bool → List Bool → Bool → List Bool
+rest_with polynomial [] coefficient = []
+rest_with polynomial (first ∷ rest) coefficient = plus (rest ++ false ∷ []) (scaled (xor first coefficient) polynomial)
+
+unfoldable pub rest_after : List Bool → List Bool → List Bool → List Bool
+rest_after polynomial rest [] = rest
+rest_after polynomial rest (coefficient ∷ dividend) = rest_after polynomial (rest_with polynomial rest coefficient) dividend
+
+-- the number whose bits these are, the lowest first
+unfoldable pub number_of : List Bool → ℕ
+number_of [] = 0
+number_of (bit ∷ rest) = (if bit then 1 else 0) + 2 * number_of rest
+
+-- what is left of the message, times the 32nd power, and of `start` in front of it, as a number
+unfoldable pub left_of : ℕ → ℕ → List ℕ → ℕ
+left_of polynomial start bytes = number_of (rest_after (bits 32 polynomial) (bits 32 start) (message bytes))
+
+unfoldable pub checksum_of : ℕ → ℕ → ℕ → List ℕ → ℕ
+checksum_of polynomial start inversion bytes = bit_xor (left_of polynomial start bytes) inversion
+
+abbrev pub crc32_of : List ℕ → ℕ
+crc32_of bytes = checksum_of ieee_802_3 0xFFFFFFFF 0xFFFFFFFF bytes
+
+abbrev pub crc32_lvm_of : List ℕ → ℕ
+crc32_lvm_of bytes = checksum_of ieee_802_3 0xF597A6CF 0 bytes
+
+abbrev pub crc32c_of : List ℕ → ℕ
+crc32c_of bytes = checksum_of castagnoli 0xFFFFFFFF 0xFFFFFFFF bytes
+
+-- with the four bytes from byte `at` on taken as zero
+abbrev pub crc32c_without_of : List ℕ → ℕ → ℕ
+crc32c_without_of bytes at = crc32c_of (with_bytes bytes at (replicate 4 0))
+
+-- the function gives the checksum, and there is no other
+abbrev pub OneChecksum : Type 0
+OneChecksum =
+    (polynomial start inversion : ℕ) (bytes : List ℕ) → inversion < 2 ^ 32
+    → IsChecksum polynomial start inversion bytes (checksum_of polynomial start inversion bytes)
+    × ((other : ℕ) → IsChecksum polynomial start inversion bytes other → other ≡ checksum_of polynomial start inversion bytes)
 
 -- word v of a table is left of the byte v
 abbrev pub IsTable : ℕ → List ℕ → Type 0

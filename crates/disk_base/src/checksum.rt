@@ -1,12 +1,12 @@
 //! Checksums of 32 bits.
-ghost use Rattle.std.specs.Prelude.{ℕ};
-ghost use Rattle.disk_base.specs.Checksum.{IsCrc32, IsTable, Leaves};
+ghost use Rattle.std.specs.Prelude.{◌≡◌, ℕ, ◌+◌, ◌≤◌, length};
+ghost use Rattle.disk_base.specs.Checksum.{IsCrc32, IsCrc32Lvm, IsCrc32c, IsTable, OneChecksum, crc32_of, crc32_lvm_of, crc32c_of, crc32c_without_of, left_of};
 
-use crate::checksum_table::CRC32;
+use crate::checksum_table::{CRC32, CRC32C};
 
 /// What is left of `start` and `bytes` by the polynomial of the table.
 fn remainder(table: &[u32; 256], start: u32, bytes: &[u8]) -> u32
-    ensures { (polynomial : ℕ) → IsTable polynomial table.now → Leaves polynomial start bytes.now result }
+    ensures { (polynomial : ℕ) → IsTable polynomial table.now → result ≡ left_of polynomial start bytes.now }
 {
     let mut rest = start;
     for byte in bytes {
@@ -18,10 +18,44 @@ fn remainder(table: &[u32; 256], start: u32, bytes: &[u8]) -> u32
 
 /// The checksum of IEEE 802.3, by which a GUID partition table is summed (UEFI specification, 5.3.2).
 pub fn crc32(bytes: &[u8]) -> u32
-    ensures { IsCrc32 bytes.now result }
+    ensures value { result ≡ crc32_of bytes.now }
+    ensures sum { IsCrc32 bytes.now result }
 {
     remainder(&CRC32, 0xFFFF_FFFF, bytes) ^ 0xFFFF_FFFF
 }
+
+/// The checksum by which LVM2 sums its labels, headers and texts: that of IEEE 802.3 with another start
+/// and no inversion.
+pub fn crc32_lvm(bytes: &[u8]) -> u32
+    ensures value { result ≡ crc32_lvm_of bytes.now }
+    ensures sum { IsCrc32Lvm bytes.now result }
+{
+    remainder(&CRC32, 0xF597_A6CF, bytes)
+}
+
+/// The checksum by the Castagnoli polynomial (RFC 3720, 12.1), by which XFS sums its metadata.
+pub fn crc32c(bytes: &[u8]) -> u32
+    ensures value { result ≡ crc32c_of bytes.now }
+    ensures sum { IsCrc32c bytes.now result }
+{
+    remainder(&CRC32C, 0xFFFF_FFFF, bytes) ^ 0xFFFF_FFFF
+}
+
+/// The same checksum, with the four bytes from byte `at` on taken as zero: so XFS sums what holds its own
+/// checksum there.
+pub fn crc32c_without(bytes: &[u8], at: usize) -> u32
+    requires { at + 4 ≤ length bytes.now }
+    ensures { result ≡ crc32c_without_of bytes.now at }
+{
+    let before = remainder(&CRC32C, 0xFFFF_FFFF, &bytes[..at]);
+    let zeros = remainder(&CRC32C, before, &[0; 4]);
+    remainder(&CRC32C, zeros, &bytes[at + 4..]) ^ 0xFFFF_FFFF
+}
+
+/// The law that each of these functions of the definitions gives the one checksum. A call does nothing.
+pub fn one_checksum()
+    ensures { OneChecksum }
+{}
 
 #[cfg(test)]
 mod tests {
@@ -32,5 +66,10 @@ mod tests {
     fn sums_the_check_message_and_nothing(rt: HostRuntime) {
         assert_eq!(rt; crc32(b"123456789"), 0xCBF4_3926);
         assert_eq!(rt; crc32(b""), 0);
+        assert_eq!(rt; crc32_lvm(b""), 0xF597_A6CF);
+        assert_eq!(rt; crc32c(b"123456789"), 0xE306_9283);
+        assert_eq!(rt; crc32c(&[0; 32]), 0x8A91_36AA);
+        assert_eq!(rt; crc32c_without(&[0; 32], 4), 0x8A91_36AA);
+        assert_eq!(rt; crc32c_without(b"1234_sum_56789", 4), crc32c(b"1234\0\0\0\0_56789"));
     }
 }

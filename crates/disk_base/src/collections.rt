@@ -1,5 +1,5 @@
 //! Lists and names that grow where memory allows, and that contracts see as lists.
-ghost use Rattle.std.specs.Prelude.{◌≡◌, ℕ, [], ◌∷◌, ◌++◌, OnOk, IfOk, IfErr};
+ghost use Rattle.std.specs.Prelude.{◌≡◌, ℕ, [], ◌∷◌, ◌++◌, OnOk, IfOk, IfErr, MatchOption};
 
 use std::alloc::{AllocError, AllocFailed, Global};
 use std::marker::Model;
@@ -42,6 +42,13 @@ impl<T> List<T> {
         }
     }
 
+    /// Takes the last item, if there is one.
+    pub fn pop(&mut self) -> Option<T>
+        ensures { MatchOption result ((self.old ≡ []) × (self.new ≡ [])) (λ last. self.old ≡ self.new ++ last ∷ []) }
+    {
+        self.items.pop()
+    }
+
     /// The items.
     pub fn items(&self) -> &[T]
         ensures { result.now ≡ self.now }
@@ -72,6 +79,13 @@ impl Name {
         Ok(Name {
             bytes: Vec::from_slice(alloc, bytes)?,
         })
+    }
+
+    /// These bytes. It takes no memory.
+    pub fn from_vec(bytes: Vec<u8>) -> Name
+        ensures { result ≡ bytes.items }
+    {
+        Name { bytes }
     }
 
     /// The bytes.

@@ -8,6 +8,9 @@ use thiserror::Error;
 /// Bytes in a sector.
 pub const SECTOR: usize = 512;
 
+/// The most sectors that a disk of a job may have.
+pub const MOST_SECTORS: u64 = 2147483648;
+
 /// The one answer of a device that failed.
 #[derive(Clone, Copy, Debug, PartialEq, Eq, Error)]
 #[error("the device failed")]

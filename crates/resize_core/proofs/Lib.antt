@@ -1,4 +1,3 @@
-pub mod Copies
 pub mod Finishing
 pub mod Found
 pub mod PartsLemmas

@@ -4,4 +4,4 @@ pub mod Placing
 pub mod Ready
 pub mod Same
 pub mod Targets
-pub mod Transfers
+pub mod inside

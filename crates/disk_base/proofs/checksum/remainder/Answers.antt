@@ -1,12 +1,11 @@
 use Rattle.std.proofs.Common.{arith, rules, ◌≡◌, ℕ, take, ap, ◌∙◌, List}
 use Rattle.std.proofs.lemmas.List.{take_all}
-use Rattle.disk_base.specs.Checksum.{bits, message}
-use Rattle.disk_base.proofs.Polynomials.{run}
-use Rattle.disk_base.proofs.Checksums.{leaves_run, byte_more}
+use Rattle.disk_base.specs.Checksum.{bits, message, rest_after}
+use Rattle.disk_base.proofs.Checksums.{left_is, byte_more}
 use Rattle.disk_base.proofs.checksum.remainder.Goals as goal
 
 pub loop-byte-init : goal.loop-byte-init
-unfolding run
+unfolding rest_after
 loop-byte-init c = λ polynomial table. search rules
 
 pub loop-byte-preserved : goal.loop-byte-preserved
@@ -18,4 +17,5 @@ pub returns : goal.returns
 returns c =
     λ polynomial table.
     let all : take c.loop-byte.byte-index c.args.bytes.now ≡ c.args.bytes.now = take_all _ _ (omega arith) in
-    leaves_run polynomial c.args.start _ _ (c.loop-byte.invariant polynomial table ∙ ap (λ (l : List ℕ). run (bits 32 polynomial) (bits 32 c.args.start) (message l)) all)
+    left_is polynomial c.args.start c.args.bytes.now c.loop-byte.rest (omega (arith, c.type_inv))
+    (c.loop-byte.invariant polynomial table ∙ ap (λ (l : List ℕ). rest_after (bits 32 polynomial) (bits 32 c.args.start) (message l)) all)

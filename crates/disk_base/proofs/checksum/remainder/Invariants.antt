@@ -1,8 +1,7 @@
 use Rattle.std.proofs.Common.{◌≡◌, ℕ, take}
-use Rattle.disk_base.specs.Checksum.{bits, message, IsTable}
-use Rattle.disk_base.proofs.Polynomials.{run}
+use Rattle.disk_base.specs.Checksum.{bits, message, IsTable, rest_after}
 use Rattle.disk_base.proofs.checksum.remainder.Given as goal
 
 abbrev pub invariant-loop-byte : goal.invariant-loop-byte
 invariant-loop-byte l =
-    (polynomial : ℕ) → IsTable polynomial l.table → bits 32 l.rest ≡ run (bits 32 polynomial) (bits 32 l.start) (message (take l.byte-index l.bytes))
+    (polynomial : ℕ) → IsTable polynomial l.table → bits 32 l.rest ≡ rest_after (bits 32 polynomial) (bits 32 l.start) (message (take l.byte-index l.bytes))

@@ -1,0 +1,11 @@
+use Rattle.std.proofs.Common.{◌≡◌, ℕ, subst, sym, lit<}
+use Rattle.disk_base.specs.Checksum.{IsChecksum, ieee_802_3}
+use Rattle.disk_base.proofs.Checksums.{checksum_is, not_inverted, crc32_table}
+use Rattle.disk_base.proofs.checksum.crc32_lvm.Goals as goal
+
+pub returns-clause-value : goal.returns-clause-value
+returns-clause-value c = not_inverted ieee_802_3 0xF597A6CF c.args.bytes.now c.remainder.result (c.remainder.ensures ieee_802_3 crc32_table)
+
+pub returns-clause-sum : goal.returns-clause-sum
+returns-clause-sum c =
+    subst (λ (n : ℕ). IsChecksum ieee_802_3 0xF597A6CF 0 c.args.bytes.now n) (sym (returns-clause-value c)) (checksum_is ieee_802_3 0xF597A6CF 0 c.args.bytes.now (lit< tt))
