@@ -5,10 +5,11 @@ use Rattle.disk_base.specs.Checksum.{IsCrc32}
 use Rattle.disk_base.specs.Image.{bytes_at, sector}
 use Rattle.uuid.specs.Parts.{is_nil_bytes}
 use Rattle.gpt_table.specs.declared.entry.Entry.{Entry}
+use Rattle.gpt_table.specs.declared.header.Header.{Header}
 use Rattle.gpt_table.specs.declared.fault.GptFault.{GptFault}
 use Rattle.gpt_table.specs.declared.fault.GptFault.TheVariants as faults
 use Rattle.gpt_table.specs.Entry.{slot_at, is_bad, IsInside, slot_bytes}
-use Rattle.gpt_table.specs.Header.{IsValid, IsMisshapen, IsAbsent, IsHeaderSector, header_place, array_written, array_of, first_usable, last_usable, disk_guid}
+use Rattle.gpt_table.specs.Header.{IsValid, IsMisshapen, IsAbsent, IsHeaderSector, header_at, header_place, array_written, array_of}
 
 -- a table as contracts see it
 pub record Table : Type 0 where
@@ -27,24 +28,24 @@ pub record IsInUse (sectors : ℕ) (image : List ℕ) (backup : Bool) : Type 0 w
   pub primary : IsTrue backup → IsAbsent sectors 1 image
 
 -- the header and the array that are in use
-abbrev pub header_in : ℕ → List ℕ → Bool → List ℕ
-header_in sectors image backup = sector image (header_place sectors backup)
+abbrev pub header_in : ℕ → List ℕ → Bool → Header
+header_in sectors image backup = header_at image (header_place sectors backup)
 
 abbrev pub array_in : ℕ → List ℕ → Bool → List ℕ
 array_in sectors image backup = array_of image (header_in sectors image backup)
 
 -- entry `k`, counted from 0, of an array is bad by a header's usable sectors
-abbrev pub is_bad_at : List ℕ → List ℕ → ℕ → Bool
-is_bad_at header array k = is_bad (first_usable header) (last_usable header) (slot_at array k)
+abbrev pub is_bad_at : Header → List ℕ → ℕ → Bool
+is_bad_at header array k = is_bad header.first header.last (slot_at array k)
 
 -- the entries of an array, of which none is bad
-pub record AreEntries (header array : List ℕ) (entries : List (Option Entry)) : Type 0 where
+pub record AreEntries (header : Header) (array : List ℕ) (entries : List (Option Entry)) : Type 0 where
   pub count : length entries ≡ 128
   pub each : (k : ℕ) → k < 128 → slice_index_or entries k None ≡ slot_at array k
   pub none_bad : (k : ℕ) → k < 128 → is_bad_at header array k ≡ false
 
 -- the first bad entry has that number, counted from 1
-pub record IsFirstBad (header array : List ℕ) (number : ℕ) : Type 0 where
+pub record IsFirstBad (header : Header) (array : List ℕ) (number : ℕ) : Type 0 where
   pub counted : (1 ≤ number) × (number ≤ 128)
   pub bad : IsTrue (is_bad_at header array (number - 1))
   pub none_before : (k : ℕ) → k + 1 < number → is_bad_at header array k ≡ false
@@ -52,7 +53,7 @@ pub record IsFirstBad (header array : List ℕ) (number : ℕ) : Type 0 where
 -- the table of a disk of that many sectors
 pub record IsGptTable (sectors : ℕ) (image : List ℕ) (table : Table) : Type 0 where
   pub in_use : IsInUse sectors image table.from_backup
-  pub disk : table.disk ≡ disk_guid (header_in sectors image table.from_backup)
+  pub disk : table.disk ≡ (header_in sectors image table.from_backup).disk
   pub entries : AreEntries (header_in sectors image table.from_backup) (array_in sectors image table.from_backup) table.entries
 
 -- why a disk of that many sectors has no table; a device's fault and want of memory say nothing of it
@@ -64,6 +65,13 @@ HasGptFault sectors image (faults.Entry number) =
     (backup : Bool) × IsInUse sectors image backup × IsFirstBad (header_in sectors image backup) (array_in sectors image backup) number
 HasGptFault sectors image faults.Device = Unit {0}
 HasGptFault sectors image faults.Memory = Unit {0}
+
+-- a disk has at most one table, and where it has one there is no reason against it
+abbrev pub OneTable : Type 0
+OneTable =
+    (sectors : ℕ) (image : List ℕ) (one : Table) → IsGptTable sectors image one
+    → ((other : Table) → IsGptTable sectors image other → other ≡ one)
+    × ((fault : GptFault) → HasGptFault sectors image fault → (fault ≡ faults.Device) ⊎ (fault ≡ faults.Memory))
 
 -- 128 entries, of which each used one lies on a disk of that many sectors
 pub record AreInside (sectors : ℕ) (entries : List (Option Entry)) : Type 0 where

@@ -9,8 +9,8 @@ ghost use Rattle.gpt_table.specs.Gpt.{protective_bytes, array_bytes, AreWritable
 
 use crate::entry::Entry;
 use crate::gpt::Gpt;
-use crate::header::{ENTRIES, ENTRY, FIRST_USABLE, HEADER, REVISION, SIGNATURE, put};
-use disk_base::{SECTOR, crc32};
+use crate::header::{ENTRIES, ENTRY, FIRST_USABLE, HEADER, REVISION, SIGNATURE};
+use disk_base::{SECTOR, crc32, put};
 use uuid::Uuid;
 
 /// How many sectors from the last usable one to the end the backup takes, and that one itself.

@@ -6,7 +6,7 @@
 //! tells a table that only stands in for another one; [`one_table`], [`one_chain`], [`chain_reads_back`]
 //! and [`table_reads_back`] are laws. `specs/Mbr.antt` and `specs/Chain.antt` say what the table of a disk is.
 //!
-//! It stands on disk_base for disks and on byteorder for numbers.
+//! It stands on disk_base for disks and their bytes, and on byteorder for numbers.
 #![tactic(auto)]
 
 mod chain;

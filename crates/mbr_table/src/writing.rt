@@ -7,6 +7,7 @@ ghost use Rattle.mbr_table.specs.Record.{link_slot, link_entry_of, ebr_sector_of
 ghost use Rattle.mbr_table.specs.Mbr.{IsSectorTable, IsSound, ReadsBack, mbr_sector_of, table_of};
 
 use crate::slot::Slot;
+use disk_base::put;
 
 /// What stands in place of an address by cylinder, head and sector.
 const NO_ADDRESS: [u8; 3] = [0xFE, 0xFF, 0xFF];
@@ -59,14 +60,6 @@ fn link_entry(next: Option<(u32, u32)>) -> [u8; 16]
         start,
         count,
     })
-}
-
-/// Writes `bytes` from place `at` on, behind what stands before it.
-fn put(out: &mut [u8; 512], at: usize, bytes: &[u8])
-    requires { at + length bytes.now ≤ 512 }
-    ensures { take (at + length bytes.now) out.new ≡ take at out.old ++ bytes.now }
-{
-    out[at..at + bytes.len()].copy_from_slice(bytes);
 }
 
 /// Makes sector 0 of a disk with that head and these slots. It is read as them, but that an unused slot

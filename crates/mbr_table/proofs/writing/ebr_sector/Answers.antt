@@ -1,4 +1,4 @@
-use Rattle.std.proofs.Common.{◌≡◌, subst, sym, ap, ◌∙◌}
+use Rattle.std.proofs.Common.{◌≡◌, subst, sym, ap, ◌∙◌, arith}
 use Rattle.mbr_table.specs.Signature.{HasSignature}
 use Rattle.mbr_table.specs.Slot.{slot_of, kept, entry_of}
 use Rattle.mbr_table.specs.Chain.{own_of, next_of}
@@ -8,8 +8,8 @@ use Rattle.mbr_table.proofs.writing.ebr_sector.Goals as goal
 pub returns-clause-bytes : goal.returns-clause-bytes
 returns-clause-bytes c =
     record_written c.args.own.now c.args.next c.args.out.now c.put.new.out c.put-2.new.out c.put-3.new.out c.put-4.new.out c.put-5.new.out
-    c.entry.result c.link_entry.result c.entry.ensures.bytes c.link_entry.ensures.bytes c.put-5.array_long
-    c.put.ensures c.put-2.ensures c.put-3.ensures c.put-4.ensures c.put-5.ensures
+    c.entry.result c.link_entry.result c.entry.ensures.bytes c.link_entry.ensures.bytes (omega arith)
+    c.put.ensures.appended c.put-2.ensures.appended c.put-3.ensures.appended c.put-4.ensures.appended c.put-5.ensures.appended
 
 pub returns-clause-own : goal.returns-clause-own
 returns-clause-own c =
