@@ -45,7 +45,8 @@ pub record IsInside (sectors : ℕ) (entry : Entry) : Type 0 where
 unfoldable pub slot_bytes : Option Entry → List ℕ
 slot_bytes None = replicate 128 0
 slot_bytes (Some entry) =
-    swap_fields entry.kind ++ swap_fields entry.id ++ little_bytes 8 entry.first ++ little_bytes 8 entry.last ++ little_bytes 8 entry.flags ++ entry.name
+    swap_fields entry.kind ++ swap_fields entry.id ++ little_bytes 8 entry.first ++ little_bytes 8 entry.last
+    ++ little_bytes 8 entry.flags ++ entry.name
 
 -- what is read of an entry that was written: none where its kind is zero
 abbrev pub kept : Option Entry → Option Entry

@@ -1,5 +1,5 @@
 -- The table of a disk, why there is none, and the disk that a written table is read from.
-use Rattle.std.specs.Prelude.{◌≡◌, ℕ, ◌+◌, ◌-◌, ◌*◌, ◌<◌, ◌≤◌, ◌⊎◌, Bool, true, false, nat_eq, if◌then◌else◌, List, ◌++◌, ◌∷◌, [], length, replicate, min, slice_index_or, flat_map, Option, Some, None, IsTrue}
+use Rattle.std.specs.Prelude.{◌≡◌, ℕ, ◌+◌, ◌-◌, ◌*◌, ◌^◌, ◌<◌, ◌≤◌, ◌⊎◌, Bool, true, false, nat_eq, if◌then◌else◌, List, ◌++◌, ◌∷◌, [], length, replicate, min, slice_index_or, flat_map, Option, Some, None, IsTrue}
 use Rattle.byteorder.specs.Endian.{little_bytes}
 use Rattle.disk_base.specs.Checksum.{IsCrc32}
 use Rattle.disk_base.specs.Image.{bytes_at, sector}
@@ -26,6 +26,16 @@ entry_at table number = if nat_eq number 0 then None else slice_index_or table.e
 pub record IsInUse (sectors : ℕ) (image : List ℕ) (backup : Bool) : Type 0 where
   pub valid : IsValid sectors (header_place sectors backup) image
   pub primary : IsTrue backup → IsAbsent sectors 1 image
+
+-- neither header is there
+abbrev pub HasNoHeader : ℕ → List ℕ → Type 0
+HasNoHeader sectors image = IsAbsent sectors 1 image × IsAbsent sectors (sectors - 1) image
+
+-- the primary header, or where it is absent the backup, is sound and of another shape
+abbrev pub HasOtherTable : ℕ → List ℕ → ℕ → ℕ → Type 0
+HasOtherTable sectors image count size =
+    IsMisshapen sectors 1 image count size
+    ⊎ (IsAbsent sectors 1 image × IsMisshapen sectors (sectors - 1) image count size)
 
 -- the header and the array that are in use
 abbrev pub header_in : ℕ → List ℕ → Bool → Header
@@ -54,15 +64,16 @@ pub record IsFirstBad (header : Header) (array : List ℕ) (number : ℕ) : Type
 pub record IsGptTable (sectors : ℕ) (image : List ℕ) (table : Table) : Type 0 where
   pub in_use : IsInUse sectors image table.from_backup
   pub disk : table.disk ≡ (header_in sectors image table.from_backup).disk
-  pub entries : AreEntries (header_in sectors image table.from_backup) (array_in sectors image table.from_backup) table.entries
+  pub entries :
+      AreEntries (header_in sectors image table.from_backup) (array_in sectors image table.from_backup) table.entries
 
 -- why a disk of that many sectors has no table; a device's fault and want of memory say nothing of it
 abbrev pub HasGptFault : ℕ → List ℕ → GptFault → Type 0
-HasGptFault sectors image faults.NoHeader = IsAbsent sectors 1 image × IsAbsent sectors (sectors - 1) image
-HasGptFault sectors image (faults.Shape count size) =
-    IsMisshapen sectors 1 image count size ⊎ (IsAbsent sectors 1 image × IsMisshapen sectors (sectors - 1) image count size)
+HasGptFault sectors image faults.NoHeader = HasNoHeader sectors image
+HasGptFault sectors image (faults.Shape count size) = HasOtherTable sectors image count size
 HasGptFault sectors image (faults.Entry number) =
-    (backup : Bool) × IsInUse sectors image backup × IsFirstBad (header_in sectors image backup) (array_in sectors image backup) number
+    (backup : Bool) × IsInUse sectors image backup
+    × IsFirstBad (header_in sectors image backup) (array_in sectors image backup) number
 HasGptFault sectors image faults.Device = Unit {0}
 HasGptFault sectors image faults.Memory = Unit {0}
 
@@ -82,7 +93,8 @@ pub record AreInside (sectors : ℕ) (entries : List (Option Entry)) : Type 0 wh
 -- place of the disk's other tables, three unused slots, and the signature
 abbrev pub protective_bytes : List ℕ → ℕ → List ℕ
 protective_bytes head sectors =
-    head ++ (0x00 ∷ 0x00 ∷ 0x02 ∷ 0x00 ∷ 0xEE ∷ 0xFF ∷ 0xFF ∷ 0xFF ∷ []) ++ little_bytes 4 1 ++ little_bytes 4 (min (sectors - 1) 0xFFFFFFFF)
+    head ++ (0x00 ∷ 0x00 ∷ 0x02 ∷ 0x00 ∷ 0xEE ∷ 0xFF ∷ 0xFF ∷ 0xFF ∷ []) ++ little_bytes 4 1
+    ++ little_bytes 4 (min (sectors - 1) 0xFFFFFFFF)
     ++ replicate 48 0 ++ (0x55 ∷ 0xAA ∷ [])
 
 -- the array that is written for a table's entries
@@ -97,7 +109,8 @@ pub record IsWritable (sectors : ℕ) (entry : Entry) : Type 0 where
   pub before_backup : entry.last ≤ sectors - 34
 
 abbrev pub AreWritable : ℕ → List (Option Entry) → Type 0
-AreWritable sectors entries = (k : ℕ) (entry : Entry) → slice_index_or entries k None ≡ Some entry → IsWritable sectors entry
+AreWritable sectors entries =
+    (k : ℕ) (entry : Entry) → slice_index_or entries k None ≡ Some entry → IsWritable sectors entry
 
 -- a disk of that many sectors on which both headers and both arrays of a table stand as they are written
 pub record IsWritten (sectors : ℕ) (table : Table) (image : List ℕ) : Type 0 where
@@ -113,3 +126,9 @@ pub record ReadsAs (sectors : ℕ) (table : Table) (image : List ℕ) : Type 0 w
   pub is_table : IsGptTable sectors image (record table { from_backup = false })
   pub primary : IsValid sectors 1 image
   pub backup : IsValid sectors (sectors - 1) image
+
+-- whatever disk that table is written on is read as it
+abbrev pub IsReadWhereWritten : Table → Type 0
+IsReadWhereWritten table =
+    (sectors : ℕ) (image : List ℕ) → 68 ≤ sectors → sectors < 2 ^ 64 → AreWritable sectors table.entries
+    → IsWritten sectors table image → ReadsAs sectors table image

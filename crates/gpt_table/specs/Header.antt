@@ -12,7 +12,8 @@ use Rattle.gpt_table.specs.Entry.{guid_at}
 unfoldable pub summed : List ℕ → List ℕ
 summed bytes = take 16 bytes ++ replicate 4 0 ++ bytes_at bytes 20 72
 
--- the fields of a header, as its bytes spell them; what is reserved, and the place of the other header, is not looked at
+-- the fields of a header, as its bytes spell them; what is reserved, and the place of the other header, is not
+-- looked at
 unfoldable pub header_of : List ℕ → Header
 header_of bytes = record {
   signature = bytes_at bytes 0 8;
@@ -107,7 +108,8 @@ rest_bytes disk sectors backup array =
     ++ little_bytes 8 (array_written sectors backup) ++ little_bytes 4 128 ++ little_bytes 4 128 ++ little_bytes 4 array
 
 abbrev pub header_bytes : List ℕ → ℕ → Bool → ℕ → ℕ → List ℕ
-header_bytes disk sectors backup array checksum = start_bytes sectors backup checksum ++ rest_bytes disk sectors backup array
+header_bytes disk sectors backup array checksum =
+    start_bytes sectors backup checksum ++ rest_bytes disk sectors backup array
 
 -- a sector holds the header of a table with that identifier, whose array has the checksum `array`
 pub record IsHeaderSector (disk : List ℕ) (sectors : ℕ) (backup : Bool) (array : ℕ) (bytes : List ℕ) : Type 0 where

@@ -7,7 +7,7 @@ use Rattle.std.proofs.lemmas.List.Elements.{filter_map-append}
 use Rattle.std.proofs.lemmas.List.Quantifiers.{all_pairs_push}
 use Rattle.disk_base.specs.Image.{sector}
 use Rattle.mbr_table.specs.declared.slot.Slot.{Slot}
-use Rattle.mbr_table.specs.Chain.{next_of, logical_of, due_at, logicals_at, IsGoodRecord, IsBeginning, IsChain, LeadsTo, ComesToBad, ComesTooFar}
+use Rattle.mbr_table.specs.Chain.{next_of, logical_of, due_at, logicals_at, IsGoodRecord, IsBeginning, IsChain, LeadsTo, IsBadNext, IsOneTooMany, ComesToBad, ComesTooFar}
 
 -- what is due depends on the places before it alone
 pub due_before : (image : List ℕ) (extended : Slot) (places rest : List ℕ) (i : ℕ) → i ≤ length places
@@ -104,22 +104,49 @@ one_chain_at_most image extended one other one-is other-is =
     let ge : length one ≤ length other = not_longer image extended other one other-is one-is.begins in
     ext_get_or 0 other one (omega arith) (λ i lt. same_places image extended other one other-is.begins one-is.begins i lt (omega arith))
 
--- a place that is due after a beginning is the next one of the chain
-record IsNext (chain places : List ℕ) (at : ℕ) : Type 0 where
-  shorter : length places < length chain
-  place : slice_index chain (length places) ≡ at
+-- a longer beginning goes on with the place that is due
+place_behind : (image : List ℕ) (extended : Slot) (places longer : List ℕ) (at : ℕ) → LeadsTo image extended places at → IsBeginning image extended longer
+    → length places < length longer → slice_index longer (length places) ≡ at
+place_behind image extended places longer at leads begins shorter =
+    let here : due_at image extended longer (length places) ≡ Some (slice_index longer (length places)) = begins.following (length places) shorter in
+    let same : due_at image extended longer (length places) ≡ due_at image extended places (length places) =
+    same_due image extended longer places begins leads.begins (length places) (omega arith) (omega arith) in
+    let due = leads.due in
+    cc
 
-is_next : (image : List ℕ) (extended : Slot) (chain places : List ℕ) (at : ℕ) → IsChain image extended chain → LeadsTo image extended places at
-    → IsNext chain places at
-is_next image extended chain places at is leads =
+-- no beginning goes on behind a bad record
+bad_ends : (image : List ℕ) (extended : Slot) (places longer : List ℕ) (at : ℕ) → LeadsTo image extended places at → IsBadNext image extended places at
+    → IsBeginning image extended longer → length places < length longer → ⊥
+bad_ends image extended places longer at leads bad begins shorter =
+    let place : slice_index longer (length places) ≡ at = place_behind image extended places longer at leads begins shorter in
+    let good : IsGoodRecord extended at (sector image at) =
+    subst (λ (p : ℕ). IsGoodRecord extended p (sector image p)) place (begins.sound (length places) shorter) in
+    elim bad [
+      | inl outside ↦ outside good.inside
+      | inr (inl came) ↦
+          let k : ℕ = came.0 in
+          let before : slice_index places k ≡ slice_index longer k =
+          same_places image extended places longer leads.begins begins k came.1 (omega (arith, shorter, came.1)) in
+          let here : slice_index places k ≡ at = get_or_default places k 0 at came.1 ∙ came.2 in
+          begins.distinct k (length places) 0 came.1 shorter (sym before ∙ here ∙ sym place)
+      | inr (inr none) ↦ none.1 good
+    ]
+
+-- nor behind the 60th
+too_far_ends : (image : List ℕ) (extended : Slot) (places longer : List ℕ) (at : ℕ) → IsOneTooMany extended places at → IsBeginning image extended longer
+    → length places < length longer → ⊥
+too_far_ends image extended places longer at many begins shorter = omega (arith, shorter, many.sixty, begins.few)
+
+-- a chain goes on behind a place that is due
+goes_on : (image : List ℕ) (extended : Slot) (chain places : List ℕ) (at : ℕ) → IsChain image extended chain → LeadsTo image extended places at
+    → length places < length chain
+goes_on image extended chain places at is leads =
     let le : length places ≤ length chain = not_longer image extended chain places is leads.begins in
     let same : due_at image extended chain (length places) ≡ due_at image extended places (length places) =
     same_due image extended chain places is.begins leads.begins (length places) le (omega arith) in
     let due = leads.due in
     elim (cases_lt (length places) (length chain)) [
-      | inl shorter ↦
-          let here : due_at image extended chain (length places) ≡ Some (slice_index chain (length places)) = is.begins.following (length places) shorter in
-          record { shorter = shorter; place = cc }
+      | inl shorter ↦ shorter
       | inr ge ↦
           let ends : due_at image extended chain (length places) ≡ None =
           ap (due_at image extended chain) (omega arith) ∙ is.ends in
@@ -129,23 +156,55 @@ is_next image extended chain places at is leads =
 -- where there is a chain, it does not come to a bad record
 pub none_bad : (image : List ℕ) (extended : Slot) (chain : List ℕ) (at : ℕ) → IsChain image extended chain → ComesToBad image extended at → ⊥
 none_bad image extended chain at is comes =
-    let places : List ℕ = comes.0 in
-    let next : IsNext chain places at = is_next image extended chain places at is comes.1 in
-    let good : IsGoodRecord extended at (sector image at) =
-    subst (λ (p : ℕ). IsGoodRecord extended p (sector image p)) next.place (is.begins.sound (length places) next.shorter) in
-    elim comes.2 [
-      | inl outside ↦ outside good.inside
-      | inr (inl came) ↦
-          let k : ℕ = came.0 in
-          let before : slice_index places k ≡ slice_index chain k =
-          same_places image extended places chain comes.1.begins is.begins k came.1 (omega (arith, next.shorter, came.1)) in
-          let here : slice_index places k ≡ at = get_or_default places k 0 at came.1 ∙ came.2 in
-          is.begins.distinct k (length places) 0 came.1 next.shorter (sym before ∙ here ∙ sym next.place)
-      | inr (inr bad) ↦ bad.1 good
-    ]
+    bad_ends image extended comes.0 chain at comes.1 comes.2 is.begins (goes_on image extended chain comes.0 at is comes.1)
 
 -- and not too far
 pub none_too_far : (image : List ℕ) (extended : Slot) (chain : List ℕ) (at : ℕ) → IsChain image extended chain → ComesTooFar image extended at → ⊥
 none_too_far image extended chain at is comes =
-    let next : IsNext chain comes.0 at = is_next image extended chain comes.0 at is comes.1 in
-    omega (arith, next.shorter, comes.2.sixty, is.begins.few)
+    too_far_ends image extended comes.0 chain at comes.2 is.begins (goes_on image extended chain comes.0 at is comes.1)
+
+-- two beginnings of which none goes on behind the other lead to one place
+record AreSame (a b : List ℕ) (at place : ℕ) : Type 0 where
+  lists : a ≡ b
+  places : at ≡ place
+
+same_end : (image : List ℕ) (extended : Slot) (a b : List ℕ) (at place : ℕ) → LeadsTo image extended a at → LeadsTo image extended b place
+    → (length a < length b → ⊥) → (length b < length a → ⊥) → AreSame a b at place
+same_end image extended a b at place a-leads b-leads not_a not_b =
+    let long : length a ≡ length b = elim (cases_lt (length a) (length b)) [
+      | inl lt ↦ absurd (not_a lt)
+      | inr ge ↦ elim (cases_lt (length b) (length a)) [
+        | inl lt ↦ absurd (not_b lt)
+        | inr le ↦ omega arith
+      ]
+    ] in
+    let lists : a ≡ b = ext_get_or 0 a b long (λ i lt. same_places image extended a b a-leads.begins b-leads.begins i lt (omega arith)) in
+    let due : due_at image extended a (length a) ≡ due_at image extended b (length b) = ap (λ (l : List ℕ). due_at image extended l (length l)) lists in
+    let first = a-leads.due in
+    let second = b-leads.due in
+    record { lists = lists; places = cc }
+
+-- a chain comes to one bad place
+pub one_bad : (image : List ℕ) (extended : Slot) (at place : ℕ) → ComesToBad image extended at → ComesToBad image extended place → at ≡ place
+one_bad image extended at place a b =
+    (same_end image extended a.0 b.0 at place a.1 b.1 (bad_ends image extended a.0 b.0 at a.1 a.2 b.1.begins)
+    (bad_ends image extended b.0 a.0 place b.1 b.2 a.1.begins)).places
+
+pub one_too_far : (image : List ℕ) (extended : Slot) (at place : ℕ) → ComesTooFar image extended at → ComesTooFar image extended place → at ≡ place
+one_too_far image extended at place a b =
+    (same_end image extended a.0 b.0 at place a.1 b.1 (too_far_ends image extended a.0 b.0 at a.2 b.1.begins)
+    (too_far_ends image extended b.0 a.0 place b.2 a.1.begins)).places
+
+-- or too far, and not both
+pub not_both : (image : List ℕ) (extended : Slot) (at place : ℕ) → ComesToBad image extended at → ComesTooFar image extended place → ⊥
+not_both image extended at place a b =
+    let same : AreSame a.0 b.0 at place =
+    same_end image extended a.0 b.0 at place a.1 b.1 (bad_ends image extended a.0 b.0 at a.1 a.2 b.1.begins)
+    (too_far_ends image extended b.0 a.0 place b.2 a.1.begins) in
+    let many : IsOneTooMany extended a.0 at =
+    subst (λ (l : List ℕ). IsOneTooMany extended l at) (sym same.lists) (subst (IsOneTooMany extended b.0) (sym same.places) b.2) in
+    elim a.2 [
+      | inl outside ↦ outside many.inside
+      | inr (inl came) ↦ many.new came
+      | inr (inr none) ↦ omega (arith, none.0, many.sixty)
+    ]

@@ -1,7 +1,7 @@
 -- A sector that was written for a head and slots is read as their table.
 use Rattle.std.proofs.Common.{◌-◌, ◌⊎◌, inl, inr, subst, cond, false, None, Some, MatchOption, ◌≡◌, ℕ, suc, ◌^◌, ◌<◌, ◌≤◌, true, List, [], ◌∷◌, ◌++◌, length, take, drop, map, get_or, refl, sym, ap, ◌∙◌, append_assoc, arith, add-zero}
 use Rattle.std.specs.List.{list_any, find}
-use Rattle.std.proofs.lemmas.Bool.{and_parts}
+use Rattle.std.proofs.lemmas.Bool.{and_parts, cases_lt}
 use Rattle.std.proofs.lemmas.Option.{MatchOption-at_some}
 use Rattle.std.proofs.lemmas.List.{length-append, append-nil, take_at, drop_at, take-map, get_or-map, get_or-drop, length-map}
 use Rattle.disk_base.specs.Image.{bytes_at, sector}
@@ -11,10 +11,10 @@ use Rattle.mbr_table.specs.declared.fault.MbrFault.{MbrFault}
 use Rattle.mbr_table.specs.declared.fault.MbrFault.TheVariants.{NoSignature, Entry, Chain, TooMany, Device, Memory}
 use Rattle.mbr_table.specs.Slot.{slot_of, empty_slot, kept, entry_of, end_of, is_used, is_extended, holds_extended, is_bad, IsBadEntry}
 use Rattle.mbr_table.specs.Signature.{HasSignature}
-use Rattle.mbr_table.specs.Mbr.{Table, IsSound, IsSectorTable, IsMbrTable, IsSectorFault, HasMbrFault, AreLogicals, HasExtended, mbr_sector_of, table_of, ReadsBack}
-use Rattle.mbr_table.specs.Chain.{AreChained, logicals_at}
+use Rattle.mbr_table.specs.Mbr.{Table, slots_of, IsSound, IsFirstBad, IsOfDisk, IsSectorTable, IsMbrTable, IsSectorFault, HasMbrFault, AreLogicals, HasExtended, mbr_sector_of, table_of, ReadsBack}
+use Rattle.mbr_table.specs.Chain.{AreChained, ComesToBad, ComesTooFar, logicals_at}
 use Rattle.mbr_table.specs.inside.Walk.{IsLogicalsFault}
-use Rattle.mbr_table.proofs.Chains.{one_chain_at_most, none_bad, none_too_far}
+use Rattle.mbr_table.proofs.Chains.{one_chain_at_most, none_bad, none_too_far, one_bad, one_too_far, not_both}
 use Rattle.mbr_table.proofs.Entries.{length-entry_of, kept-is_bad, any-kept, entry_read_back, good_bounds}
 
 -- a part is found behind what stands before it
@@ -239,3 +239,61 @@ logicals_fault sectors image table (Chain at) is why = (why.0, has_extended sect
 logicals_fault sectors image table (TooMany at) is why = (why.0, has_extended sectors (sector image 0) table why.0 is why.1, why.2)
 logicals_fault sectors image table Device is why = tt
 logicals_fault sectors image table Memory is why = tt
+
+-- one slot is the first bad one
+one_first_bad : (sectors : ℕ) (slots : List Slot) (a b : ℕ) → IsFirstBad sectors slots a → IsFirstBad sectors slots b → a ≡ b
+one_first_bad sectors slots a b a-is b-is =
+    elim (cases_lt a b) [
+      | inl lt ↦ absurd (b-is.none_before (a - 1) (omega (arith, a-is.counted)) a-is.bad)
+      | inr ge ↦ elim (cases_lt b a) [
+        | inl lt ↦ absurd (a-is.none_before (b - 1) (omega (arith, b-is.counted)) b-is.bad)
+        | inr le ↦ omega arith
+      ]
+    ]
+
+-- a sector that spells a table has the signature and no bad slot
+unsigned_only : (sectors : ℕ) (bytes : List ℕ) → 0 < sectors → HasSignature bytes → IsSectorFault sectors bytes NoSignature → ⊥
+unsigned_only sectors bytes some signed (inl none) = omega arith
+unsigned_only sectors bytes some signed (inr unsigned) = unsigned signed
+
+sound_only : (sectors : ℕ) (bytes : List ℕ) (extended : Slot) (number : ℕ) → HasExtended sectors bytes extended → IsFirstBad sectors (slots_of bytes) number → ⊥
+sound_only sectors bytes extended number has first = has.sound.none_bad (number - 1) (omega (arith, first.counted)) first.bad
+
+-- a table has one extended partition
+one_extended : (sectors : ℕ) (bytes : List ℕ) (a b : Slot) → HasExtended sectors bytes a → HasExtended sectors bytes b → a ≡ b
+one_extended sectors bytes a b a-has b-has =
+    let first = a-has.found in
+    let second = b-has.found in
+    cc
+
+-- one reason stands against a disk
+pub one_fault_at_most : (sectors : ℕ) (image : List ℕ) (one other : MbrFault) → HasMbrFault sectors image one → HasMbrFault sectors image other
+    → IsOfDisk one → IsOfDisk other → other ≡ one
+one_fault_at_most sectors image NoSignature NoSignature a b p q = refl
+one_fault_at_most sectors image NoSignature (Entry n) a b p q = absurd (unsigned_only sectors (sector image 0) b.0 b.1 a)
+one_fault_at_most sectors image NoSignature (Chain at) a b p q = absurd (unsigned_only sectors (sector image 0) b.1.some b.1.signature a)
+one_fault_at_most sectors image NoSignature (TooMany at) a b p q = absurd (unsigned_only sectors (sector image 0) b.1.some b.1.signature a)
+one_fault_at_most sectors image (Entry n) NoSignature a b p q = absurd (unsigned_only sectors (sector image 0) a.0 a.1 b)
+one_fault_at_most sectors image (Entry n) (Entry m) a b p q = ap Entry (one_first_bad sectors (slots_of (sector image 0)) m n b.2 a.2)
+one_fault_at_most sectors image (Entry n) (Chain at) a b p q = absurd (sound_only sectors (sector image 0) b.0 n b.1 a.2)
+one_fault_at_most sectors image (Entry n) (TooMany at) a b p q = absurd (sound_only sectors (sector image 0) b.0 n b.1 a.2)
+one_fault_at_most sectors image (Chain at) NoSignature a b p q = absurd (unsigned_only sectors (sector image 0) a.1.some a.1.signature b)
+one_fault_at_most sectors image (Chain at) (Entry n) a b p q = absurd (sound_only sectors (sector image 0) a.0 n a.1 b.2)
+one_fault_at_most sectors image (Chain at) (Chain place) a b p q =
+    let same : b.0 ≡ a.0 = one_extended sectors (sector image 0) b.0 a.0 b.1 a.1 in
+    ap Chain (one_bad image a.0 place at (subst (λ (e : Slot). ComesToBad image e place) same b.2) a.2)
+one_fault_at_most sectors image (Chain at) (TooMany place) a b p q =
+    let same : b.0 ≡ a.0 = one_extended sectors (sector image 0) b.0 a.0 b.1 a.1 in
+    absurd (not_both image a.0 at place a.2 (subst (λ (e : Slot). ComesTooFar image e place) same b.2))
+one_fault_at_most sectors image (TooMany at) NoSignature a b p q = absurd (unsigned_only sectors (sector image 0) a.1.some a.1.signature b)
+one_fault_at_most sectors image (TooMany at) (Entry n) a b p q = absurd (sound_only sectors (sector image 0) a.0 n a.1 b.2)
+one_fault_at_most sectors image (TooMany at) (Chain place) a b p q =
+    let same : b.0 ≡ a.0 = one_extended sectors (sector image 0) b.0 a.0 b.1 a.1 in
+    absurd (not_both image a.0 place at (subst (λ (e : Slot). ComesToBad image e place) same b.2) a.2)
+one_fault_at_most sectors image (TooMany at) (TooMany place) a b p q =
+    let same : b.0 ≡ a.0 = one_extended sectors (sector image 0) b.0 a.0 b.1 a.1 in
+    ap TooMany (one_too_far image a.0 place at (subst (λ (e : Slot). ComesTooFar image e place) same b.2) a.2)
+one_fault_at_most sectors image Device other a b p q = absurd p
+one_fault_at_most sectors image Memory other a b p q = absurd p
+one_fault_at_most sectors image one Device a b p q = absurd q
+one_fault_at_most sectors image one Memory a b p q = absurd q

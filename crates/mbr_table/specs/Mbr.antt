@@ -101,6 +101,21 @@ OneTable =
     → ((other : Table) → IsMbrTable sectors image other → other ≡ one)
     × ((fault : MbrFault) → HasMbrFault sectors image fault → (fault ≡ Device) ⊎ (fault ≡ Memory))
 
+-- a reason that says something of the disk
+abbrev pub IsOfDisk : MbrFault → Type 0
+IsOfDisk NoSignature = Unit {0}
+IsOfDisk (Entry number) = Unit {0}
+IsOfDisk (Chain at) = Unit {0}
+IsOfDisk (TooMany at) = Unit {0}
+IsOfDisk Device = ⊥
+IsOfDisk Memory = ⊥
+
+-- at most one of these stands against a disk
+abbrev pub OneFault : Type 0
+OneFault =
+    (sectors : ℕ) (image : List ℕ) (one other : MbrFault) → HasMbrFault sectors image one → HasMbrFault sectors image other
+    → IsOfDisk one → IsOfDisk other → other ≡ one
+
 -- the sector that is written for a head and slots
 abbrev pub mbr_sector_of : List ℕ → List Slot → List ℕ
 mbr_sector_of head slots = head ++ flat_map entry_of slots ++ 0x55 ∷ 0xAA ∷ []

@@ -1,7 +1,7 @@
 //! Reading the table.
 ghost use Rattle.std.specs.Prelude.{◌≡◌, ◌^◌, ◌<◌, ◌≤◌, IsTrue, OnOk, IfOk, IfErr, IsErrOf};
 ghost use Rattle.disk_base.specs.Faults.{Rose};
-ghost use Rattle.mbr_table.specs.Mbr.{IsSound, IsMbrTable, HasMbrFault, AreWithin, AreLogicals, OneTable};
+ghost use Rattle.mbr_table.specs.Mbr.{IsSound, IsMbrTable, HasMbrFault, AreWithin, AreLogicals, OneTable, OneFault};
 ghost use Rattle.mbr_table.specs.inside.Walk.{IsReadSector, IsLogicalsFault};
 
 use crate::chain::read_chain;
@@ -132,4 +132,10 @@ pub fn read_mbr<B: Blocks>(alloc: Global, disk: &mut B) -> Result<Mbr, MbrFault>
 /// The law that a disk has at most one table, and no reason against it where it has one. A call does nothing.
 pub fn one_table()
     ensures { OneTable }
+{}
+
+/// The law that at most one reason stands against a disk, beside a device's fault and want of memory. A call
+/// does nothing.
+pub fn one_fault()
+    ensures { OneFault }
 {}

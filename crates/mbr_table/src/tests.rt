@@ -162,6 +162,7 @@ fn reads_tables(rt: HostRuntime) -> Result<(), Fail> {
     assert_eq!(rt; judged.slots.as_slice(), sound.as_slice());
     assert!(rt; !is_protective(&sector));
     one_table();
+    one_fault();
     Ok(())
 }
 

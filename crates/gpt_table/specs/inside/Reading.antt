@@ -1,5 +1,5 @@
 -- What the parts of the reader find, one sector at a time.
-use Rattle.std.specs.Prelude.{◌≡◌, ℕ, ◌-◌, ◌⊎◌, List, length}
+use Rattle.std.specs.Prelude.{◌≡◌, ℕ, List, length}
 use Rattle.gpt_table.specs.declared.fault.GptFault.{GptFault}
 use Rattle.gpt_table.specs.declared.fault.GptFault.TheVariants as faults
 use Rattle.gpt_table.specs.declared.reading.Chosen.{Chosen}
@@ -9,7 +9,7 @@ use Rattle.gpt_table.specs.declared.header.Header.{Header}
 use Rattle.gpt_table.specs.declared.header.Judged.{Judged}
 use Rattle.gpt_table.specs.declared.header.Judged.TheVariants as judged
 use Rattle.gpt_table.specs.Header.{header_at, array_of, ArePlaced, IsPlacedHeader, HasOtherShape, IsValid, IsMisshapen, IsAbsent}
-use Rattle.gpt_table.specs.Gpt.{IsInUse, IsFirstBad, header_in, array_in}
+use Rattle.gpt_table.specs.Gpt.{IsInUse, IsFirstBad, HasNoHeader, HasOtherTable, header_in, array_in}
 
 -- neither a placed header nor one of another shape
 pub record IsNoHeader (sectors at : ℕ) (header : Header) : Type 0 where
@@ -63,9 +63,8 @@ IsChoiceBounded sectors chosen = IsTakenInside sectors chosen.header chosen.arra
 
 -- why no header is in use
 abbrev pub IsChoiceFault : ℕ → List ℕ → GptFault → Type 0
-IsChoiceFault sectors image faults.NoHeader = IsAbsent sectors 1 image × IsAbsent sectors (sectors - 1) image
-IsChoiceFault sectors image (faults.Shape count size) =
-    IsMisshapen sectors 1 image count size ⊎ (IsAbsent sectors 1 image × IsMisshapen sectors (sectors - 1) image count size)
+IsChoiceFault sectors image faults.NoHeader = HasNoHeader sectors image
+IsChoiceFault sectors image (faults.Shape count size) = HasOtherTable sectors image count size
 IsChoiceFault sectors image (faults.Entry number) = ⊥
 IsChoiceFault sectors image faults.Device = Unit {0}
 IsChoiceFault sectors image faults.Memory = Unit {0}
