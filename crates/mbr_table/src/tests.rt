@@ -169,12 +169,14 @@ fn reads_tables(rt: HostRuntime) -> Result<(), Fail> {
 #[test]
 fn says_why_there_is_no_table(rt: HostRuntime) {
     let sound = sector_of(&[plain(2048, 20480), plain(22528, 43007), EMPTY, EMPTY]);
+    let lone = sector_of(&[plain(2048, 20480), EMPTY, EMPTY, EMPTY]);
     let past = sector_of(&[plain(2048, 63488), EMPTY, EMPTY, EMPTY]);
     let at_zero = sector_of(&[plain(2048, 1), plain(0, 1), EMPTY, EMPTY]);
     let twice = sector_of(&[extended(1, 8), plain(9, 1), extended(10, 8), EMPTY]);
     let cases = [
         (0, sound, MbrFault::NoSignature),
         (65535, [0; 512], MbrFault::NoSignature),
+        (20000, lone, MbrFault::Entry { number: 1 }),
         (65535, past, MbrFault::Entry { number: 1 }),
         (65535, at_zero, MbrFault::Entry { number: 2 }),
         (65535, twice, MbrFault::Entry { number: 3 }),
