@@ -3,8 +3,9 @@ use Rattle.std.proofs.Common.{◌≡◌, ℕ, ◌^◌, ◌<◌, List, [], Some, 
 use Rattle.std.proofs.lemmas.List.{take_all}
 use Rattle.byteorder.specs.Numbers.{little_number-reads_back}
 use Rattle.uuid.proofs.RoundTrips.{swap_twice}
+use Rattle.disk_base.specs.Fields.{little_at}
 use Rattle.gpt_table.specs.declared.entry.Entry.{Entry}
-use Rattle.gpt_table.specs.Entry.{guid_at, number_at, entry_of, slot_bytes}
+use Rattle.gpt_table.specs.Entry.{guid_at, entry_of, slot_bytes}
 
 made : List ℕ → List ℕ → ℕ → ℕ → ℕ → List ℕ → Entry
 made kind id first last flags name = record { kind = kind; id = id; first = first; last = last; flags = flags; name = name }
@@ -14,7 +15,7 @@ same_entry k k' i i' f f' l l' g g' n n' k-is i-is f-is l-is g-is n-is = cc
 
 pub entry_read_back : (entry : Entry) → length entry.kind ≡ 16 → length entry.id ≡ 16 → entry.first < 2 ^ 64 → entry.last < 2 ^ 64 → entry.flags < 2 ^ 64 → length entry.name ≡ 72
     → entry_of (slot_bytes (Some entry)) ≡ entry
-unfolding slot_bytes guid_at number_at made
+unfolding slot_bytes guid_at little_at made
 entry_read_back entry kind-long id-long first-fits last-fits flags-fits name-long =
     same_entry _ _ _ _ _ _ _ _ _ _ _ _
     (swap_twice entry.kind kind-long)

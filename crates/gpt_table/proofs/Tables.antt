@@ -3,9 +3,10 @@ use Rattle.std.proofs.Common.{◌≡◌, ℕ, ◌-◌, ◌<◌, ◌⊎◌, inl, 
 use Rattle.std.proofs.lemmas.Bool.{false≢true}
 use Rattle.std.proofs.lemmas.List.{same_lists, get_or_default}
 use Rattle.gpt_table.specs.declared.entry.Entry.{Entry as UsedEntry}
+use Rattle.gpt_table.specs.declared.header.Header.{Header}
 use Rattle.gpt_table.specs.declared.fault.GptFault.{GptFault}
 use Rattle.gpt_table.specs.declared.fault.GptFault.TheVariants.{NoHeader, Shape, Entry, Device, Memory}
-use Rattle.gpt_table.specs.Header.{IsValid, IsAbsent, IsMisshapen, disk_guid}
+use Rattle.gpt_table.specs.Header.{IsValid, IsAbsent, IsMisshapen}
 use Rattle.gpt_table.specs.Gpt.{Table, IsInUse, IsGptTable, HasGptFault, AreEntries, IsFirstBad, header_in, array_in}
 
 -- one header is in use
@@ -15,7 +16,7 @@ one_in_use sectors image true false a-is b-is = let absent : IsAbsent sectors 1 
 one_in_use sectors image false true a-is b-is = let absent : IsAbsent sectors 1 image = b-is.primary refl in absurd (absent.not_valid a-is.valid)
 one_in_use sectors image false false a-is b-is = refl
 
-same_entries : (header array : List ℕ) (a b : List (Option UsedEntry)) → AreEntries header array a → AreEntries header array b → a ≡ b
+same_entries : (header : Header) (array : List ℕ) (a b : List (Option UsedEntry)) → AreEntries header array a → AreEntries header array b → a ≡ b
 same_entries header array a b a-are b-are =
     same_lists a b (a-are.count ∙ sym b-are.count)
     (λ k d lt.
@@ -23,10 +24,10 @@ same_entries header array a b a-are b-are =
     let in_b : k < length b = omega (arith, a-are.count, b-are.count) in
     get_or_default a k d None lt ∙ a-are.each k small ∙ sym (b-are.each k small) ∙ sym (get_or_default b k d None in_b))
 
-pub one_table : (sectors : ℕ) (image : List ℕ) (a b : Table) → IsGptTable sectors image a → IsGptTable sectors image b → a ≡ b
-one_table sectors image a b a-is b-is =
+pub one_table_at_most : (sectors : ℕ) (image : List ℕ) (a b : Table) → IsGptTable sectors image a → IsGptTable sectors image b → a ≡ b
+one_table_at_most sectors image a b a-is b-is =
     let same : a.from_backup ≡ b.from_backup = one_in_use sectors image a.from_backup b.from_backup a-is.in_use b-is.in_use in
-    let disk : a.disk ≡ b.disk = a-is.disk ∙ ap (λ (u : Bool). disk_guid (header_in sectors image u)) same ∙ sym b-is.disk in
+    let disk : a.disk ≡ b.disk = a-is.disk ∙ ap (λ (u : Bool). (header_in sectors image u).disk) same ∙ sym b-is.disk in
     let here : AreEntries (header_in sectors image b.from_backup) (array_in sectors image b.from_backup) a.entries =
     subst (λ (u : Bool). AreEntries (header_in sectors image u) (array_in sectors image u) a.entries) same a-is.entries in
     let entries : a.entries ≡ b.entries = same_entries _ _ a.entries b.entries here b-is.entries in

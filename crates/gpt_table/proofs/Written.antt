@@ -1,5 +1,5 @@
 -- A disk on which a table stands as it is written is read as that table.
-use Rattle.std.proofs.Common.{◌≡◌, ℕ, zero, suc, ◌+◌, ◌-◌, ◌*◌, ◌^◌, ◌<◌, ◌≤◌, Bool, true, false, List, [], ◌∷◌, ◌++◌, length, take, drop, replicate, get_or, Option, Some, None, refl, sym, ap, subst, ◌∙◌, arith, append-nil, nat_lt, ◌||◌, if◌then◌else◌, length-append, length-take, le-ltb}
+use Rattle.std.proofs.Common.{◌≡◌, ℕ, zero, suc, ◌+◌, ◌-◌, ◌*◌, ◌^◌, ◌<◌, ◌≤◌, Bool, true, false, List, [], ◌∷◌, ◌++◌, length, take, drop, replicate, get_or, Option, Some, None, refl, sym, ap, subst, ◌∙◌, arith, codes, append-nil, nat_lt, ◌||◌, if◌then◌else◌, length-append, length-take, le-ltb}
 use Rattle.std.proofs.lemmas.List.{take_at, drop_at, drop-drop, take_all, take_more, get_or-take}
 use Rattle.std.proofs.lemmas.Grind.{flat_map-append}
 use Rattle.std.proofs.lemmas.Bool.{false≢true}
@@ -10,24 +10,38 @@ use Rattle.disk_base.specs.Checksum.{IsCrc32}
 use Rattle.disk_base.specs.Image.{bytes_at, with_bytes, sector}
 use Rattle.gpt_table.proofs.Puts.{next, filled}
 use Rattle.gpt_table.specs.declared.entry.Entry.{Entry}
-use Rattle.gpt_table.specs.Entry.{guid_at, number_at, entry_of, used, slot_at, kept, is_bad, slot_bytes}
-use Rattle.gpt_table.specs.Header.{first_usable, last_usable, disk_guid, array_place, array_checksum, summed, HasStart, HasShape, IsPlacedHeader, IsValid, IsHeaderSector, header_place, array_written, array_of, start_bytes, rest_bytes, header_bytes}
+use Rattle.disk_base.specs.Fields.{little_at}
+use Rattle.gpt_table.specs.declared.header.Header.{Header}
+use Rattle.gpt_table.specs.Entry.{guid_at, entry_of, used, slot_at, kept, is_bad, slot_bytes}
+use Rattle.gpt_table.specs.Header.{summed, header_of, header_at, IsPlacedHeader, IsValid, IsHeaderSector, header_place, array_written, array_of, start_bytes, rest_bytes, header_bytes}
 use Rattle.gpt_table.specs.Gpt.{Table, AreWritable, IsWritable, IsWritten, ReadsAs, array_bytes}
 
 -- ---- a header
 
--- the fields of a header that was written
-record HasFields (sectors : ℕ) (backup : Bool) (disk : List ℕ) (array checksum : ℕ) (bytes : List ℕ) : Type 0 where
-  start : HasStart bytes
-  checksum_is : number_at 4 bytes 16 ≡ checksum
-  place : number_at 8 bytes 24 ≡ header_place sectors backup
-  first : first_usable bytes ≡ 34
-  last : last_usable bytes ≡ sectors - 34
-  guid : disk_guid bytes ≡ disk
-  array_is : array_place bytes ≡ array_written sectors backup
-  shape : HasShape bytes
-  array_sum : array_checksum bytes ≡ array
-  summed_is : summed bytes ≡ header_bytes disk sectors backup array 0
+-- a header that was written for a table
+made : ℕ → ℕ → ℕ → List ℕ → ℕ → ℕ → List ℕ → Header
+made checksum place last disk array sum covered = record {
+  signature = codes "EFI PART";
+  revision = 0x10000;
+  size = 92;
+  checksum = checksum;
+  place = place;
+  first = 34;
+  last = last;
+  disk = disk;
+  array = array;
+  count = 128;
+  entry_size = 128;
+  array_checksum = sum;
+  covered = covered;
+}
+
+same_header : (c c' p p' l l' : ℕ) (d d' : List ℕ) (a a' s s' : ℕ) (v : List ℕ) → c ≡ c' → p ≡ p' → l ≡ l' → d ≡ d' → a ≡ a' → s ≡ s' → made c p l d a s v ≡ made c' p' l' d' a' s' v
+same_header c c' p p' l l' d d' a a' s s' v c-is p-is l-is d-is a-is s-is = cc
+
+abbrev written_header : List ℕ → ℕ → Bool → ℕ → ℕ → Header
+written_header disk sectors backup array checksum =
+    made checksum (header_place sectors backup) (sectors - 34) disk (array_written sectors backup) array (header_bytes disk sectors backup array 0)
 
 place_fits : (sectors : ℕ) (backup : Bool) → sectors < 2 ^ 64 → header_place sectors backup < 2 ^ 64
 place_fits sectors true fits = omega arith
@@ -37,58 +51,58 @@ array_fits : (sectors : ℕ) (backup : Bool) → sectors < 2 ^ 64 → array_writ
 array_fits sectors true fits = omega arith
 array_fits sectors false fits = omega arith
 
-fields_of : (sectors : ℕ) (backup : Bool) (disk : List ℕ) (array checksum : ℕ) → sectors < 2 ^ 64 → length disk ≡ 16 → array < 2 ^ 32 → checksum < 2 ^ 32
-    → HasFields sectors backup disk array checksum (header_bytes disk sectors backup array checksum ++ replicate 420 0)
-unfolding number_at guid_at summed start_bytes rest_bytes
-fields_of sectors backup disk array checksum fits long array-fits checksum-fits =
-    record {
-      start = record { signature = refl; revision = refl; size = refl };
-      checksum_is = little_number-reads_back 4 checksum [] checksum-fits;
-      place = little_number-reads_back 8 (header_place sectors backup) [] (place_fits sectors backup fits);
-      first = refl;
-      last = little_number-reads_back 8 (sectors - 34) [] (omega arith);
-      guid = swap_twice disk long;
-      array_is = little_number-reads_back 8 (array_written sectors backup) [] (array_fits sectors backup fits);
-      shape = record { count = refl; size = refl };
-      array_sum = little_number-reads_back 4 array [] array-fits;
-      summed_is = refl;
-    }
-
--- a header that was written is placed, and of its table
-pub record ReadsHeader (sectors : ℕ) (backup : Bool) (disk : List ℕ) (array : ℕ) (bytes : List ℕ) : Type 0 where
-  pub placed : IsPlacedHeader sectors (header_place sectors backup) bytes
-  pub first : first_usable bytes ≡ 34
-  pub last : last_usable bytes ≡ sectors - 34
-  pub guid : disk_guid bytes ≡ disk
-  pub array_is : array_place bytes ≡ array_written sectors backup
-  pub array_sum : array_checksum bytes ≡ array
+header_read_back : (sectors : ℕ) (backup : Bool) (disk : List ℕ) (array checksum : ℕ) → sectors < 2 ^ 64 → length disk ≡ 16 → array < 2 ^ 32 → checksum < 2 ^ 32
+    → header_of (header_bytes disk sectors backup array checksum ++ replicate 420 0) ≡ written_header disk sectors backup array checksum
+unfolding header_of little_at guid_at summed start_bytes rest_bytes made
+header_read_back sectors backup disk array checksum fits long array-fits checksum-fits =
+    same_header _ _ _ _ _ _ _ _ _ _ _ _ _
+    (little_number-reads_back 4 checksum [] checksum-fits)
+    (little_number-reads_back 8 (header_place sectors backup) [] (place_fits sectors backup fits))
+    (little_number-reads_back 8 (sectors - 34) [] (omega arith))
+    (swap_twice disk long)
+    (little_number-reads_back 8 (array_written sectors backup) [] (array_fits sectors backup fits))
+    (little_number-reads_back 4 array [] array-fits)
 
 array_lies : (sectors : ℕ) (backup : Bool) → 68 ≤ sectors → array_written sectors backup + 32 ≤ sectors
 array_lies sectors true some = omega arith
 array_lies sectors false some = omega arith
 
+written_placed : (sectors : ℕ) (backup : Bool) (disk : List ℕ) (array checksum : ℕ) → 68 ≤ sectors → IsCrc32 (header_bytes disk sectors backup array 0) checksum
+    → IsPlacedHeader sectors (header_place sectors backup) (written_header disk sectors backup array checksum)
+unfolding made
+written_placed sectors backup disk array checksum some sums = record {
+  sound = record { signature = refl; revision = refl; size = refl; place = refl; checksum = sums };
+  shape = record { count = refl; size = refl };
+  placed = record { array_inside = array_lies sectors backup some; behind_tables = omega arith; in_order = omega arith; within = omega arith };
+}
+
+-- a header that was written is placed, and of its table
+pub record ReadsHeader (sectors : ℕ) (backup : Bool) (disk : List ℕ) (array : ℕ) (header : Header) : Type 0 where
+  pub placed : IsPlacedHeader sectors (header_place sectors backup) header
+  pub first : header.first ≡ 34
+  pub last : header.last ≡ sectors - 34
+  pub guid : header.disk ≡ disk
+  pub array_is : header.array ≡ array_written sectors backup
+  pub array_sum : header.array_checksum ≡ array
+
+written_reads : (sectors : ℕ) (backup : Bool) (disk : List ℕ) (array checksum : ℕ) → 68 ≤ sectors → IsCrc32 (header_bytes disk sectors backup array 0) checksum
+    → ReadsHeader sectors backup disk array (written_header disk sectors backup array checksum)
+unfolding made
+written_reads sectors backup disk array checksum some sums = record {
+  placed = written_placed sectors backup disk array checksum some sums;
+  first = refl;
+  last = refl;
+  guid = refl;
+  array_is = refl;
+  array_sum = refl;
+}
+
 pub header_reads : (sectors : ℕ) (backup : Bool) (disk : List ℕ) (array : ℕ) (bytes : List ℕ) → 68 ≤ sectors → sectors < 2 ^ 64 → length disk ≡ 16 → array < 2 ^ 32
-    → IsHeaderSector disk sectors backup array bytes → ReadsHeader sectors backup disk array bytes
+    → IsHeaderSector disk sectors backup array bytes → ReadsHeader sectors backup disk array (header_of bytes)
 header_reads sectors backup disk array bytes some fits long array-fits is =
-    let f : HasFields sectors backup disk array is.checksum bytes =
-    subst (λ (b : List ℕ). HasFields sectors backup disk array is.checksum b) (sym is.bytes_are) (fields_of sectors backup disk array is.checksum fits long array-fits is.sums.fits) in
-    let sums : IsCrc32 (summed bytes) (number_at 4 bytes 16) =
-    subst (λ (n : ℕ). IsCrc32 (summed bytes) n) (sym f.checksum_is) (subst (λ (b : List ℕ). IsCrc32 b is.checksum) (sym f.summed_is) is.sums) in
-    record {
-      placed = record {
-        sound = record { start = f.start; checksum = sums; place = f.place };
-        shape = f.shape;
-        array_inside = subst (λ (n : ℕ). n + 32 ≤ sectors) (sym f.array_is) (array_lies sectors backup some);
-        behind_tables = omega (arith, f.first);
-        in_order = omega (arith, f.first, f.last);
-        within = omega (arith, f.last);
-      };
-      first = f.first;
-      last = f.last;
-      guid = f.guid;
-      array_is = f.array_is;
-      array_sum = f.array_sum;
-    }
+    let same : header_of bytes ≡ written_header disk sectors backup array is.checksum =
+    ap header_of is.bytes_are ∙ header_read_back sectors backup disk array is.checksum fits long array-fits is.sums.fits in
+    subst (ReadsHeader sectors backup disk array) (sym same) (written_reads sectors backup disk array is.checksum some is.sums)
 
 -- ---- an array
 
@@ -162,15 +176,15 @@ not_bad sectors (Some entry) fits =
 
 -- a written header is valid, and its array is the one that was written
 valid_of : (sectors : ℕ) (backup : Bool) (image disk array : List ℕ) (sum : ℕ) → header_place sectors backup < sectors
-    → ReadsHeader sectors backup disk sum (sector image (header_place sectors backup)) → bytes_at image (512 * array_written sectors backup) 16384 ≡ array → IsCrc32 array sum
-    → IsValid sectors (header_place sectors backup) image × (array_of image (sector image (header_place sectors backup)) ≡ array)
+    → ReadsHeader sectors backup disk sum (header_at image (header_place sectors backup)) → bytes_at image (512 * array_written sectors backup) 16384 ≡ array → IsCrc32 array sum
+    → IsValid sectors (header_place sectors backup) image × (array_of image (header_at image (header_place sectors backup)) ≡ array)
 valid_of sectors backup image disk array sum inside reads array-is sums =
-    let header : List ℕ = sector image (header_place sectors backup) in
+    let header : Header = header_at image (header_place sectors backup) in
     let here : array_of image header ≡ array = ap (λ (n : ℕ). bytes_at image (512 * n) 16384) reads.array_is ∙ array-is in (
       record {
         inside = inside;
         placed = reads.placed;
-        checksum = subst (λ (a : List ℕ). IsCrc32 a (array_checksum header)) (sym here) (subst (λ (n : ℕ). IsCrc32 array n) (sym reads.array_sum) sums);
+        checksum = subst (λ (a : List ℕ). IsCrc32 a header.array_checksum) (sym here) (subst (λ (n : ℕ). IsCrc32 array n) (sym reads.array_sum) sums);
       },
       here,
     )
@@ -183,7 +197,7 @@ reads_as sectors table image disk-long count back some fits writable w =
     let b = header_reads sectors true table.disk w.checksum (sector image (sectors - 1)) some fits disk-long w.sums.fits w.backup in
     let first = valid_of sectors false image table.disk (array_bytes table.entries) w.checksum (omega arith) p w.primary_array w.sums in
     let last = valid_of sectors true image table.disk (array_bytes table.entries) w.checksum (omega arith) b w.backup_array w.sums in
-    let slot : (k : ℕ) → k < 128 → slot_at (array_of image (sector image 1)) k ≡ get_or table.entries k None =
+    let slot : (k : ℕ) → k < 128 → slot_at (array_of image (header_at image 1)) k ≡ get_or table.entries k None =
     λ k lt.
     ap (λ (a : List ℕ). slot_at a k) first.1 ∙ back k lt ∙ kept_same (get_or table.entries k None) (λ entry is. let e = writable k entry is in e.kind) in
     record {
@@ -194,8 +208,8 @@ reads_as sectors table image disk-long count back some fits writable w =
           count = count;
           each = λ k lt. sym (slot k lt);
           none_bad = λ k lt.
-              ap (λ (n : ℕ). is_bad n (last_usable (sector image 1)) (slot_at (array_of image (sector image 1)) k)) p.first
-              ∙ ap (λ (n : ℕ). is_bad 34 n (slot_at (array_of image (sector image 1)) k)) p.last
+              ap (λ (n : ℕ). is_bad n (header_at image 1).last (slot_at (array_of image (header_at image 1)) k)) p.first
+              ∙ ap (λ (n : ℕ). is_bad 34 n (slot_at (array_of image (header_at image 1)) k)) p.last
               ∙ ap (is_bad 34 (sectors - 34)) (slot k lt)
               ∙ not_bad sectors (get_or table.entries k None) (λ entry is. writable k entry is);
         };

@@ -1,7 +1,8 @@
 -- One of the 128 entries of a table: what its 128 bytes say, and when it may not stand in a table.
-use Rattle.std.specs.Prelude.{◌≡◌, ℕ, ◌*◌, ◌<◌, ◌≤◌, Bool, false, ◌||◌, nat_lt, if◌then◌else◌, List, ◌++◌, drop, replicate, Option, Some, None}
-use Rattle.byteorder.specs.Endian.{little_number, little_bytes}
+use Rattle.std.specs.Prelude.{◌≡◌, ℕ, ◌*◌, ◌<◌, ◌≤◌, Bool, false, ◌||◌, nat_lt, if◌then◌else◌, List, ◌++◌, replicate, Option, Some, None}
+use Rattle.byteorder.specs.Endian.{little_bytes}
 use Rattle.uuid.specs.Parts.{swap_fields, is_nil_bytes}
+use Rattle.disk_base.specs.Fields.{little_at}
 use Rattle.disk_base.specs.Image.{bytes_at}
 use Rattle.gpt_table.specs.declared.entry.Entry.{Entry}
 
@@ -9,18 +10,14 @@ use Rattle.gpt_table.specs.declared.entry.Entry.{Entry}
 unfoldable pub guid_at : List ℕ → ℕ → List ℕ
 guid_at bytes at = swap_fields (bytes_at bytes at 16)
 
--- the number of `n` bytes from byte `at` on, lowest byte first
-unfoldable pub number_at : ℕ → List ℕ → ℕ → ℕ
-number_at n bytes at = little_number n (drop at bytes)
-
 -- the entry that 128 bytes spell
 abbrev pub entry_of : List ℕ → Entry
 entry_of bytes = record {
   kind = guid_at bytes 0;
   id = guid_at bytes 16;
-  first = number_at 8 bytes 32;
-  last = number_at 8 bytes 40;
-  flags = number_at 8 bytes 48;
+  first = little_at 8 bytes 32;
+  last = little_at 8 bytes 40;
+  flags = little_at 8 bytes 48;
   name = bytes_at bytes 56 72;
 }
 
@@ -48,7 +45,8 @@ pub record IsInside (sectors : ℕ) (entry : Entry) : Type 0 where
 unfoldable pub slot_bytes : Option Entry → List ℕ
 slot_bytes None = replicate 128 0
 slot_bytes (Some entry) =
-    swap_fields entry.kind ++ swap_fields entry.id ++ little_bytes 8 entry.first ++ little_bytes 8 entry.last ++ little_bytes 8 entry.flags ++ entry.name
+    swap_fields entry.kind ++ swap_fields entry.id ++ little_bytes 8 entry.first ++ little_bytes 8 entry.last
+    ++ little_bytes 8 entry.flags ++ entry.name
 
 -- what is read of an entry that was written: none where its kind is zero
 abbrev pub kept : Option Entry → Option Entry

@@ -1,14 +1,15 @@
 -- The table of a disk, why there is none, and the disk that a written table is read from.
-use Rattle.std.specs.Prelude.{◌≡◌, ℕ, ◌+◌, ◌-◌, ◌*◌, ◌<◌, ◌≤◌, ◌⊎◌, Bool, true, false, nat_eq, if◌then◌else◌, List, ◌++◌, ◌∷◌, [], length, replicate, min, slice_index_or, flat_map, Option, Some, None, IsTrue}
+use Rattle.std.specs.Prelude.{◌≡◌, ℕ, ◌+◌, ◌-◌, ◌*◌, ◌^◌, ◌<◌, ◌≤◌, ◌⊎◌, Bool, true, false, nat_eq, if◌then◌else◌, List, ◌++◌, ◌∷◌, [], length, replicate, min, slice_index_or, flat_map, Option, Some, None, IsTrue}
 use Rattle.byteorder.specs.Endian.{little_bytes}
 use Rattle.disk_base.specs.Checksum.{IsCrc32}
 use Rattle.disk_base.specs.Image.{bytes_at, sector}
 use Rattle.uuid.specs.Parts.{is_nil_bytes}
 use Rattle.gpt_table.specs.declared.entry.Entry.{Entry}
+use Rattle.gpt_table.specs.declared.header.Header.{Header}
 use Rattle.gpt_table.specs.declared.fault.GptFault.{GptFault}
 use Rattle.gpt_table.specs.declared.fault.GptFault.TheVariants as faults
 use Rattle.gpt_table.specs.Entry.{slot_at, is_bad, IsInside, slot_bytes}
-use Rattle.gpt_table.specs.Header.{IsValid, IsMisshapen, IsAbsent, IsHeaderSector, header_place, array_written, array_of, first_usable, last_usable, disk_guid}
+use Rattle.gpt_table.specs.Header.{IsValid, IsMisshapen, IsAbsent, IsHeaderSector, header_at, header_place, array_written, array_of}
 
 -- a table as contracts see it
 pub record Table : Type 0 where
@@ -26,25 +27,35 @@ pub record IsInUse (sectors : ℕ) (image : List ℕ) (backup : Bool) : Type 0 w
   pub valid : IsValid sectors (header_place sectors backup) image
   pub primary : IsTrue backup → IsAbsent sectors 1 image
 
+-- neither header is there
+abbrev pub HasNoHeader : ℕ → List ℕ → Type 0
+HasNoHeader sectors image = IsAbsent sectors 1 image × IsAbsent sectors (sectors - 1) image
+
+-- the primary header, or where it is absent the backup, is sound and of another shape
+abbrev pub HasOtherTable : ℕ → List ℕ → ℕ → ℕ → Type 0
+HasOtherTable sectors image count size =
+    IsMisshapen sectors 1 image count size
+    ⊎ (IsAbsent sectors 1 image × IsMisshapen sectors (sectors - 1) image count size)
+
 -- the header and the array that are in use
-abbrev pub header_in : ℕ → List ℕ → Bool → List ℕ
-header_in sectors image backup = sector image (header_place sectors backup)
+abbrev pub header_in : ℕ → List ℕ → Bool → Header
+header_in sectors image backup = header_at image (header_place sectors backup)
 
 abbrev pub array_in : ℕ → List ℕ → Bool → List ℕ
 array_in sectors image backup = array_of image (header_in sectors image backup)
 
 -- entry `k`, counted from 0, of an array is bad by a header's usable sectors
-abbrev pub is_bad_at : List ℕ → List ℕ → ℕ → Bool
-is_bad_at header array k = is_bad (first_usable header) (last_usable header) (slot_at array k)
+abbrev pub is_bad_at : Header → List ℕ → ℕ → Bool
+is_bad_at header array k = is_bad header.first header.last (slot_at array k)
 
 -- the entries of an array, of which none is bad
-pub record AreEntries (header array : List ℕ) (entries : List (Option Entry)) : Type 0 where
+pub record AreEntries (header : Header) (array : List ℕ) (entries : List (Option Entry)) : Type 0 where
   pub count : length entries ≡ 128
   pub each : (k : ℕ) → k < 128 → slice_index_or entries k None ≡ slot_at array k
   pub none_bad : (k : ℕ) → k < 128 → is_bad_at header array k ≡ false
 
 -- the first bad entry has that number, counted from 1
-pub record IsFirstBad (header array : List ℕ) (number : ℕ) : Type 0 where
+pub record IsFirstBad (header : Header) (array : List ℕ) (number : ℕ) : Type 0 where
   pub counted : (1 ≤ number) × (number ≤ 128)
   pub bad : IsTrue (is_bad_at header array (number - 1))
   pub none_before : (k : ℕ) → k + 1 < number → is_bad_at header array k ≡ false
@@ -52,18 +63,26 @@ pub record IsFirstBad (header array : List ℕ) (number : ℕ) : Type 0 where
 -- the table of a disk of that many sectors
 pub record IsGptTable (sectors : ℕ) (image : List ℕ) (table : Table) : Type 0 where
   pub in_use : IsInUse sectors image table.from_backup
-  pub disk : table.disk ≡ disk_guid (header_in sectors image table.from_backup)
-  pub entries : AreEntries (header_in sectors image table.from_backup) (array_in sectors image table.from_backup) table.entries
+  pub disk : table.disk ≡ (header_in sectors image table.from_backup).disk
+  pub entries :
+      AreEntries (header_in sectors image table.from_backup) (array_in sectors image table.from_backup) table.entries
 
 -- why a disk of that many sectors has no table; a device's fault and want of memory say nothing of it
 abbrev pub HasGptFault : ℕ → List ℕ → GptFault → Type 0
-HasGptFault sectors image faults.NoHeader = IsAbsent sectors 1 image × IsAbsent sectors (sectors - 1) image
-HasGptFault sectors image (faults.Shape count size) =
-    IsMisshapen sectors 1 image count size ⊎ (IsAbsent sectors 1 image × IsMisshapen sectors (sectors - 1) image count size)
+HasGptFault sectors image faults.NoHeader = HasNoHeader sectors image
+HasGptFault sectors image (faults.Shape count size) = HasOtherTable sectors image count size
 HasGptFault sectors image (faults.Entry number) =
-    (backup : Bool) × IsInUse sectors image backup × IsFirstBad (header_in sectors image backup) (array_in sectors image backup) number
+    (backup : Bool) × IsInUse sectors image backup
+    × IsFirstBad (header_in sectors image backup) (array_in sectors image backup) number
 HasGptFault sectors image faults.Device = Unit {0}
 HasGptFault sectors image faults.Memory = Unit {0}
+
+-- a disk has at most one table, and where it has one there is no reason against it
+abbrev pub OneTable : Type 0
+OneTable =
+    (sectors : ℕ) (image : List ℕ) (one : Table) → IsGptTable sectors image one
+    → ((other : Table) → IsGptTable sectors image other → other ≡ one)
+    × ((fault : GptFault) → HasGptFault sectors image fault → (fault ≡ faults.Device) ⊎ (fault ≡ faults.Memory))
 
 -- 128 entries, of which each used one lies on a disk of that many sectors
 pub record AreInside (sectors : ℕ) (entries : List (Option Entry)) : Type 0 where
@@ -74,7 +93,8 @@ pub record AreInside (sectors : ℕ) (entries : List (Option Entry)) : Type 0 wh
 -- place of the disk's other tables, three unused slots, and the signature
 abbrev pub protective_bytes : List ℕ → ℕ → List ℕ
 protective_bytes head sectors =
-    head ++ (0x00 ∷ 0x00 ∷ 0x02 ∷ 0x00 ∷ 0xEE ∷ 0xFF ∷ 0xFF ∷ 0xFF ∷ []) ++ little_bytes 4 1 ++ little_bytes 4 (min (sectors - 1) 0xFFFFFFFF)
+    head ++ (0x00 ∷ 0x00 ∷ 0x02 ∷ 0x00 ∷ 0xEE ∷ 0xFF ∷ 0xFF ∷ 0xFF ∷ []) ++ little_bytes 4 1
+    ++ little_bytes 4 (min (sectors - 1) 0xFFFFFFFF)
     ++ replicate 48 0 ++ (0x55 ∷ 0xAA ∷ [])
 
 -- the array that is written for a table's entries
@@ -89,7 +109,8 @@ pub record IsWritable (sectors : ℕ) (entry : Entry) : Type 0 where
   pub before_backup : entry.last ≤ sectors - 34
 
 abbrev pub AreWritable : ℕ → List (Option Entry) → Type 0
-AreWritable sectors entries = (k : ℕ) (entry : Entry) → slice_index_or entries k None ≡ Some entry → IsWritable sectors entry
+AreWritable sectors entries =
+    (k : ℕ) (entry : Entry) → slice_index_or entries k None ≡ Some entry → IsWritable sectors entry
 
 -- a disk of that many sectors on which both headers and both arrays of a table stand as they are written
 pub record IsWritten (sectors : ℕ) (table : Table) (image : List ℕ) : Type 0 where
@@ -105,3 +126,9 @@ pub record ReadsAs (sectors : ℕ) (table : Table) (image : List ℕ) : Type 0 w
   pub is_table : IsGptTable sectors image (record table { from_backup = false })
   pub primary : IsValid sectors 1 image
   pub backup : IsValid sectors (sectors - 1) image
+
+-- whatever disk that table is written on is read as it
+abbrev pub IsReadWhereWritten : Table → Type 0
+IsReadWhereWritten table =
+    (sectors : ℕ) (image : List ℕ) → 68 ≤ sectors → sectors < 2 ^ 64 → AreWritable sectors table.entries
+    → IsWritten sectors table image → ReadsAs sectors table image

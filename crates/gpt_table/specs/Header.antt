@@ -1,85 +1,87 @@
--- A header of the table, in the second sector of a disk or in its last one.
+-- A header of the table, in the second sector of a disk or in its last one (UEFI specification, 5.3.2).
 use Rattle.std.specs.Prelude.{◌≡◌, ℕ, ◌+◌, ◌-◌, ◌*◌, ◌<◌, ◌≤◌, Bool, if◌then◌else◌, not, List, ◌++◌, take, replicate, codes}
 use Rattle.byteorder.specs.Endian.{little_bytes}
 use Rattle.uuid.specs.Parts.{swap_fields}
 use Rattle.disk_base.specs.Checksum.{IsCrc32}
+use Rattle.disk_base.specs.Fields.{little_at}
 use Rattle.disk_base.specs.Image.{bytes_at, sector}
-use Rattle.gpt_table.specs.Entry.{number_at, guid_at}
-
--- the fields of a header
-abbrev pub first_usable : List ℕ → ℕ
-first_usable header = number_at 8 header 40
-
-abbrev pub last_usable : List ℕ → ℕ
-last_usable header = number_at 8 header 48
-
-abbrev pub disk_guid : List ℕ → List ℕ
-disk_guid header = guid_at header 56
-
--- the first sector of the array of entries
-abbrev pub array_place : List ℕ → ℕ
-array_place header = number_at 8 header 72
-
-abbrev pub entry_count : List ℕ → ℕ
-entry_count header = number_at 4 header 80
-
-abbrev pub entry_size : List ℕ → ℕ
-entry_size header = number_at 4 header 84
-
-abbrev pub array_checksum : List ℕ → ℕ
-array_checksum header = number_at 4 header 88
+use Rattle.gpt_table.specs.declared.header.Header.{Header}
+use Rattle.gpt_table.specs.Entry.{guid_at}
 
 -- what a header's checksum is taken of: its 92 bytes, with the checksum's own place zero
 unfoldable pub summed : List ℕ → List ℕ
-summed header = take 16 header ++ replicate 4 0 ++ bytes_at header 20 72
+summed bytes = take 16 bytes ++ replicate 4 0 ++ bytes_at bytes 20 72
 
--- a sector begins as a header of revision 1.0 and 92 bytes does
-pub record HasStart (header : List ℕ) : Type 0 where
-  pub signature : bytes_at header 0 8 ≡ codes "EFI PART"
-  pub revision : number_at 4 header 8 ≡ 0x10000
-  pub size : number_at 4 header 12 ≡ 92
+-- the fields of a header, as its bytes spell them; what is reserved, and the place of the other header, is not
+-- looked at
+unfoldable pub header_of : List ℕ → Header
+header_of bytes = record {
+  signature = bytes_at bytes 0 8;
+  revision = little_at 4 bytes 8;
+  size = little_at 4 bytes 12;
+  checksum = little_at 4 bytes 16;
+  place = little_at 8 bytes 24;
+  first = little_at 8 bytes 40;
+  last = little_at 8 bytes 48;
+  disk = guid_at bytes 56;
+  array = little_at 8 bytes 72;
+  count = little_at 4 bytes 80;
+  entry_size = little_at 4 bytes 84;
+  array_checksum = little_at 4 bytes 88;
+  covered = summed bytes;
+}
 
--- the header that sector `at` holds is one, of that place
-pub record IsSoundHeader (at : ℕ) (header : List ℕ) : Type 0 where
-  pub start : HasStart header
-  pub checksum : IsCrc32 (summed header) (number_at 4 header 16)
-  pub place : number_at 8 header 24 ≡ at
+-- the header in sector `at` of a disk
+abbrev pub header_at : List ℕ → ℕ → Header
+header_at image at = header_of (sector image at)
+
+-- a header of revision 1.0 and 92 bytes, which names the place where it stands and whose checksum is right
+pub record IsSound (at : ℕ) (header : Header) : Type 0 where
+  pub signature : header.signature ≡ codes "EFI PART"
+  pub revision : header.revision ≡ 0x10000
+  pub size : header.size ≡ 92
+  pub place : header.place ≡ at
+  pub checksum : IsCrc32 header.covered header.checksum
 
 -- 128 entries of 128 bytes
-pub record HasShape (header : List ℕ) : Type 0 where
-  pub count : entry_count header ≡ 128
-  pub size : entry_size header ≡ 128
+pub record HasShape (header : Header) : Type 0 where
+  pub count : header.count ≡ 128
+  pub size : header.entry_size ≡ 128
 
 -- a sound header of another shape
-pub record HasOtherShape (at : ℕ) (header : List ℕ) (count size : ℕ) : Type 0 where
-  pub sound : IsSoundHeader at header
+pub record HasOtherShape (at : ℕ) (header : Header) (count size : ℕ) : Type 0 where
+  pub sound : IsSound at header
   pub other : HasShape header → ⊥
-  pub count_is : count ≡ entry_count header
-  pub size_is : size ≡ entry_size header
+  pub count_is : count ≡ header.count
+  pub size_is : size ≡ header.entry_size
 
--- a sound header whose array and usable sectors lie where they may on a disk of that many sectors
-pub record IsPlacedHeader (sectors at : ℕ) (header : List ℕ) : Type 0 where
-  pub sound : IsSoundHeader at header
+-- an array of entries and usable sectors that lie where they may on a disk of that many sectors
+pub record ArePlaced (sectors : ℕ) (header : Header) : Type 0 where
+  pub array_inside : header.array + 32 ≤ sectors
+  pub behind_tables : 34 ≤ header.first
+  pub in_order : header.first ≤ header.last
+  pub within : header.last < sectors
+
+-- a sound header of the right shape whose parts lie where they may
+pub record IsPlacedHeader (sectors at : ℕ) (header : Header) : Type 0 where
+  pub sound : IsSound at header
   pub shape : HasShape header
-  pub array_inside : array_place header + 32 ≤ sectors
-  pub behind_tables : 34 ≤ first_usable header
-  pub in_order : first_usable header ≤ last_usable header
-  pub within : last_usable header < sectors
+  pub placed : ArePlaced sectors header
 
 -- the array of entries that a header names
-abbrev pub array_of : List ℕ → List ℕ → List ℕ
-array_of image header = bytes_at image (512 * array_place header) 16384
+abbrev pub array_of : List ℕ → Header → List ℕ
+array_of image header = bytes_at image (512 * header.array) 16384
 
 -- sector `at` of a disk holds a valid header
 pub record IsValid (sectors at : ℕ) (image : List ℕ) : Type 0 where
   pub inside : at < sectors
-  pub placed : IsPlacedHeader sectors at (sector image at)
-  pub checksum : IsCrc32 (array_of image (sector image at)) (array_checksum (sector image at))
+  pub placed : IsPlacedHeader sectors at (header_at image at)
+  pub checksum : IsCrc32 (array_of image (header_at image at)) (header_at image at).array_checksum
 
 -- sector `at` of a disk holds a sound header of another shape
 pub record IsMisshapen (sectors at : ℕ) (image : List ℕ) (count size : ℕ) : Type 0 where
   pub inside : at < sectors
-  pub shape : HasOtherShape at (sector image at) count size
+  pub shape : HasOtherShape at (header_at image at) count size
 
 -- sector `at` of a disk holds neither
 pub record IsAbsent (sectors at : ℕ) (image : List ℕ) : Type 0 where
@@ -106,7 +108,8 @@ rest_bytes disk sectors backup array =
     ++ little_bytes 8 (array_written sectors backup) ++ little_bytes 4 128 ++ little_bytes 4 128 ++ little_bytes 4 array
 
 abbrev pub header_bytes : List ℕ → ℕ → Bool → ℕ → ℕ → List ℕ
-header_bytes disk sectors backup array checksum = start_bytes sectors backup checksum ++ rest_bytes disk sectors backup array
+header_bytes disk sectors backup array checksum =
+    start_bytes sectors backup checksum ++ rest_bytes disk sectors backup array
 
 -- a sector holds the header of a table with that identifier, whose array has the checksum `array`
 pub record IsHeaderSector (disk : List ℕ) (sectors : ℕ) (backup : Bool) (array : ℕ) (bytes : List ℕ) : Type 0 where

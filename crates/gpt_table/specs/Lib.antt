@@ -1,4 +1,4 @@
 pub mod Entry
 pub mod Header
 pub mod Gpt
-pub mod Reading
+pub mod inside

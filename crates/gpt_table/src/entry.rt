@@ -1,8 +1,8 @@
 //! The entries of a table.
 ghost use Rattle.std.specs.Prelude.{◌≡◌, ◌+◌, ◌≤◌, length};
-ghost use Rattle.gpt_table.specs.Entry.{guid_at, number_at, entry_of, used, is_bad};
+ghost use Rattle.gpt_table.specs.Entry.{guid_at, entry_of, used, is_bad};
 
-use byteorder::{ByteOrder, LittleEndian};
+use disk_base::little_u64;
 use uuid::Uuid;
 
 /// A used entry (UEFI specification, 5.3.3): its kind, its own identifier, its first and its last
@@ -37,22 +37,6 @@ pub(crate) fn guid_in(bytes: &[u8], at: usize) -> Uuid
     Uuid::from_bytes_le(guid)
 }
 
-/// The number of 4 bytes from place `at` on, lowest byte first.
-pub(crate) fn number_in(bytes: &[u8], at: usize) -> u32
-    requires { at + 4 ≤ length bytes.now }
-    ensures { result ≡ number_at 4 bytes.now at }
-{
-    LittleEndian::read_u32(&bytes[at..])
-}
-
-/// The number of 8 bytes from place `at` on, lowest byte first.
-pub(crate) fn long_number_in(bytes: &[u8], at: usize) -> u64
-    requires { at + 8 ≤ length bytes.now }
-    ensures { result ≡ number_at 8 bytes.now at }
-{
-    LittleEndian::read_u64(&bytes[at..])
-}
-
 /// The entry that 128 bytes spell, if it is used.
 pub(crate) fn slot_in(bytes: &[u8]) -> Option<Entry>
     requires { length bytes.now ≡ 128 }
@@ -67,9 +51,9 @@ pub(crate) fn slot_in(bytes: &[u8]) -> Option<Entry>
     Some(Entry {
         kind,
         id: guid_in(bytes, 16),
-        first: long_number_in(bytes, 32),
-        last: long_number_in(bytes, 40),
-        flags: long_number_in(bytes, 48),
+        first: little_u64(bytes, 32),
+        last: little_u64(bytes, 40),
+        flags: little_u64(bytes, 48),
         name,
     })
 }

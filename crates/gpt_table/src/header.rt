@@ -1,13 +1,11 @@
 //! The headers of a table.
 ghost use Rattle.std.specs.Prelude.{◌≡◌, ◌+◌, ◌≤◌, length, IsTrue, ◌↔◌};
 ghost use Rattle.disk_base.specs.Checksum.{IsCrc32};
-ghost use Rattle.disk_base.specs.Image.{with_bytes};
-ghost use Rattle.gpt_table.specs.Entry.{number_at};
-ghost use Rattle.gpt_table.specs.Header.{HasStart, IsSoundHeader, summed};
-ghost use Rattle.gpt_table.specs.Reading.{header_of, ArePlaced, IsJudged};
+ghost use Rattle.gpt_table.specs.Header.{summed, header_of, IsSound, HasShape, ArePlaced};
+ghost use Rattle.gpt_table.specs.inside.Reading.{IsJudged};
 
-use crate::entry::{guid_in, long_number_in, number_in};
-use disk_base::{SECTOR, crc32};
+use crate::entry::guid_in;
+use disk_base::{SECTOR, crc32, little_u32, little_u64, put};
 use uuid::Uuid;
 
 /// What the first 8 bytes of a header are.
@@ -31,32 +29,32 @@ pub(crate) const FIRST_USABLE: u64 = 34;
 /// How many sectors an array takes.
 pub(crate) const ARRAY_SECTORS: u64 = 32;
 
-/// The fields of a header that say what it is the header of (UEFI specification, 5.3.2).
+/// The fields of a header (UEFI specification, 5.3.2). `size` is its own length in bytes; `place` is the
+/// sector where it stands; `first` and `last` are the first and the last usable sector; `array` is the first
+/// sector of its array of `count` entries of `entry_size` bytes; `covered` is what `checksum` is taken of.
 #[derive(Clone, Copy, Debug, PartialEq, Eq)]
 pub(crate) struct Header {
-    pub(crate) disk: Uuid,
-    pub(crate) first: u64,
-    pub(crate) last: u64,
-    pub(crate) array: u64,
-    pub(crate) count: u32,
+    pub(crate) signature: [u8; 8],
+    pub(crate) revision: u32,
     pub(crate) size: u32,
     pub(crate) checksum: u32,
+    pub(crate) place: u64,
+    pub(crate) first: u64,
+    pub(crate) last: u64,
+    pub(crate) disk: Uuid,
+    pub(crate) array: u64,
+    pub(crate) count: u32,
+    pub(crate) entry_size: u32,
+    pub(crate) array_checksum: u32,
+    pub(crate) covered: [u8; HEADER],
 }
 
-/// What a sector that may hold a header was found to hold, before its array is read.
+/// What a header was found to be, before its array is read.
 #[derive(Clone, Copy, Debug, PartialEq, Eq)]
 pub(crate) enum Judged {
     Absent,
     Misshapen { count: u32, size: u32 },
-    Placed(Header),
-}
-
-/// Writes `bytes` from place `at` on.
-pub(crate) fn put(out: &mut [u8], at: usize, bytes: &[u8])
-    requires { at + length bytes.now ≤ length out.old }
-    ensures { out.new ≡ with_bytes out.old at bytes.now }
-{
-    out[at..at + bytes.len()].copy_from_slice(bytes);
+    Placed,
 }
 
 /// What a header's checksum is taken of.
@@ -69,50 +67,54 @@ fn summed_bytes(sector: &[u8; SECTOR]) -> [u8; HEADER]
     header
 }
 
-/// Whether a header's checksum is right.
-fn has_right_checksum(sector: &[u8; SECTOR]) -> bool
-    ensures { IsTrue result ↔ IsCrc32 (summed sector.now) (number_at 4 sector.now 16) }
-{
-    crc32(&summed_bytes(sector)) == number_in(sector, 16)
-}
-
-/// Whether a sector begins as a header does.
-fn has_start(sector: &[u8; SECTOR]) -> bool
-    ensures { IsTrue result ↔ HasStart sector.now }
-{
-    &sector[..8] == SIGNATURE.as_slice()
-        && number_in(sector, 8) == REVISION
-        && number_in(sector, 12) == HEADER as u32
-}
-
-/// Whether a sector holds a sound header of that place.
-fn is_sound(at: u64, sector: &[u8; SECTOR]) -> bool
-    ensures { IsTrue result ↔ IsSoundHeader at sector.now }
-{
-    has_start(sector) && long_number_in(sector, 24) == at && has_right_checksum(sector)
-}
-
-/// The fields of a header.
-fn header_in(sector: &[u8; SECTOR]) -> Header
+/// The fields of the header that a sector spells.
+#[tactic(auto, unfolding(crate::specs::Header::header_of))]
+pub(crate) fn header_in(sector: &[u8; SECTOR]) -> Header
     ensures { result ≡ header_of sector.now }
 {
+    let mut signature = [0; 8];
+    signature.copy_from_slice(&sector[..8]);
     Header {
+        signature,
+        revision: little_u32(sector, 8),
+        size: little_u32(sector, 12),
+        checksum: little_u32(sector, 16),
+        place: little_u64(sector, 24),
+        first: little_u64(sector, 40),
+        last: little_u64(sector, 48),
         disk: guid_in(sector, 56),
-        first: long_number_in(sector, 40),
-        last: long_number_in(sector, 48),
-        array: long_number_in(sector, 72),
-        count: number_in(sector, 80),
-        size: number_in(sector, 84),
-        checksum: number_in(sector, 88),
+        array: little_u64(sector, 72),
+        count: little_u32(sector, 80),
+        entry_size: little_u32(sector, 84),
+        array_checksum: little_u32(sector, 88),
+        covered: summed_bytes(sector),
     }
 }
 
 impl Header {
+    /// Whether its checksum is right.
+    fn has_right_checksum(&self) -> bool
+        ensures { IsTrue result ↔ IsCrc32 self.now.covered self.now.checksum }
+    {
+        crc32(&self.covered) == self.checksum
+    }
+
+    /// Whether it is a sound header of that place.
+    fn is_sound(&self, at: u64) -> bool
+        ensures { IsTrue result ↔ IsSound at self.now }
+    {
+        self.signature.as_slice() == SIGNATURE.as_slice()
+            && self.revision == REVISION
+            && self.size == HEADER as u32
+            && self.place == at
+            && self.has_right_checksum()
+    }
+
     /// Whether it asks for 128 entries of 128 bytes.
     fn has_shape(&self) -> bool
-        ensures { IsTrue result ↔ ((self.now.count ≡ 128) × (self.now.size ≡ 128)) }
+        ensures { IsTrue result ↔ HasShape self.now }
     {
-        self.count == ENTRIES && self.size == ENTRY
+        self.count == ENTRIES && self.entry_size == ENTRY
     }
 
     /// Whether its array lies on a disk of that many sectors, and its usable sectors do so behind the
@@ -126,24 +128,23 @@ impl Header {
             && self.first <= self.last
             && self.last < sectors
     }
-}
 
-/// What sector `at` of a disk of that many sectors holds.
-pub(crate) fn judge(sectors: u64, at: u64, sector: &[u8; SECTOR]) -> Judged
-    ensures { IsJudged sectors at sector.now result }
-{
-    if !is_sound(at, sector) {
-        return Judged::Absent;
+    /// What it is in sector `at` of a disk of that many sectors.
+    pub(crate) fn judge(&self, sectors: u64, at: u64) -> Judged
+        ensures { IsJudged sectors at self.now result }
+    {
+        if !self.is_sound(at) {
+            return Judged::Absent;
+        }
+        if !self.has_shape() {
+            return Judged::Misshapen {
+                count: self.count,
+                size: self.entry_size,
+            };
+        }
+        if !self.is_placed(sectors) {
+            return Judged::Absent;
+        }
+        Judged::Placed
     }
-    let header = header_in(sector);
-    if !header.has_shape() {
-        return Judged::Misshapen {
-            count: header.count,
-            size: header.size,
-        };
-    }
-    if !header.is_placed(sectors) {
-        return Judged::Absent;
-    }
-    Judged::Placed(header)
 }

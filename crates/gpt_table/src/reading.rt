@@ -3,13 +3,13 @@ ghost use Rattle.std.specs.Prelude.{◌≡◌, ◌+◌, ◌*◌, ◌^◌, ◌<�
 ghost use Rattle.disk_base.specs.Faults.{Rose};
 ghost use Rattle.disk_base.specs.Image.{bytes_at};
 ghost use Rattle.gpt_table.specs.Entry.{is_bad};
-ghost use Rattle.gpt_table.specs.Gpt.{IsGptTable, HasGptFault, AreInside};
-ghost use Rattle.gpt_table.specs.Reading.{IsHindered, IsFound, IsBounded, IsListed, IsListFault, IsChosen, IsChoiceBounded, IsChoiceFault};
+ghost use Rattle.gpt_table.specs.Gpt.{IsGptTable, HasGptFault, AreInside, AreEntries, OneTable};
+ghost use Rattle.gpt_table.specs.inside.Reading.{IsHindered, IsFound, IsBounded, IsListFault, IsChosen, IsChoiceBounded, IsChoiceFault};
 
 use crate::entry::{Entry, slot_in};
 use crate::fault::GptFault;
 use crate::gpt::Gpt;
-use crate::header::{ARRAY_SECTORS, ENTRIES, ENTRY, Header, Judged, judge};
+use crate::header::{ARRAY_SECTORS, ENTRIES, ENTRY, Header, Judged, header_in};
 use disk_base::{Blocks, SECTOR, crc32};
 use std::alloc::{AllocError, Global};
 
@@ -66,15 +66,16 @@ fn look<B: Blocks>(alloc: Global, disk: &mut B, at: u64) -> Result<Found, GptFau
     if at >= sectors {
         return Ok(Found::Absent);
     }
-    let mut sector = [0; SECTOR];
-    disk.read(at, &mut sector)?;
-    let header = match judge(sectors, at, &sector) {
+    let mut bytes = [0; SECTOR];
+    disk.read(at, &mut bytes)?;
+    let header = header_in(&bytes);
+    match header.judge(sectors, at) {
         Judged::Absent => return Ok(Found::Absent),
         Judged::Misshapen { count, size } => return Ok(Found::Misshapen { count, size }),
-        Judged::Placed(header) => header,
-    };
+        Judged::Placed => {}
+    }
     let array = read_array(alloc, disk, header.array)?;
-    if crc32(&array) != header.checksum {
+    if crc32(&array) != header.array_checksum {
         return Ok(Found::Absent);
     }
     Ok(Found::Valid(header, array))
@@ -127,7 +128,7 @@ fn is_bad(header: &Header, slot: &Option<Entry>) -> bool
 /// The entries of an array, of which none may be bad.
 fn list(alloc: Global, header: &Header, array: &[u8]) -> Result<Vec<Option<Entry>>, GptFault>
     requires { length array.now ≡ 16384 }
-    ensures listed { IfOk result (λ entries. IsListed header.now array.now entries.items) }
+    ensures listed { IfOk result (λ entries. AreEntries header.now array.now entries.items) }
     ensures fault { IfErr result (λ fault. IsListFault header.now array.now fault) }
 {
     let mut entries = Vec::with_capacity(alloc, ENTRIES as usize)?;
@@ -163,3 +164,8 @@ pub fn read_gpt<B: Blocks>(alloc: Global, disk: &mut B) -> Result<Gpt, GptFault>
     let entries = list(alloc, &header, &array)?;
     Ok(Gpt::of(header.disk, entries, backup))
 }
+
+/// The law that a disk has at most one table, and no reason against it where it has one. A call does nothing.
+pub fn one_table()
+    ensures { OneTable }
+{}

@@ -162,6 +162,7 @@ fn reads_what_was_written(rt: HostRuntime) -> Result<(), Fail> {
     assert!(rt; read.entry(3) == Some(&entry(40, 66)));
     assert!(rt; read.entry(0).is_none() && read.entry(2).is_none() && read.entry(129).is_none());
     assert!(rt; !read.from_backup());
+    one_table();
     disk.fails = true;
     assert_eq!(rt;
         read_gpt(rt.alloc(), &mut disk).err(),

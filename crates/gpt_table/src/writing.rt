@@ -5,12 +5,12 @@ ghost use Rattle.uuid.specs.Parts.{swap_fields};
 ghost use Rattle.disk_base.specs.Image.{with_bytes};
 ghost use Rattle.gpt_table.specs.Entry.{slot_at, entry_of, used, kept, slot_bytes};
 ghost use Rattle.gpt_table.specs.Header.{header_place, array_written, start_bytes, rest_bytes, header_bytes, IsHeaderSector};
-ghost use Rattle.gpt_table.specs.Gpt.{protective_bytes, array_bytes, AreWritable, IsWritten, ReadsAs};
+ghost use Rattle.gpt_table.specs.Gpt.{protective_bytes, array_bytes, IsReadWhereWritten};
 
 use crate::entry::Entry;
 use crate::gpt::Gpt;
-use crate::header::{ENTRIES, ENTRY, FIRST_USABLE, HEADER, REVISION, SIGNATURE, put};
-use disk_base::{SECTOR, crc32};
+use crate::header::{ENTRIES, ENTRY, FIRST_USABLE, HEADER, REVISION, SIGNATURE};
+use disk_base::{SECTOR, crc32, put};
 use uuid::Uuid;
 
 /// How many sectors from the last usable one to the end the backup takes, and that one itself.
@@ -105,7 +105,7 @@ pub fn protective_sector(head: &[u8; 446], sectors: u64, out: &mut [u8; 512])
 pub fn gpt_entries(gpt: &Gpt, out: &mut [u8; 16384])
     ensures bytes { out.new ≡ array_bytes gpt.now.entries }
     ensures read_back { (k : ℕ) → k < 128 → slot_at out.new k ≡ kept (slice_index_or gpt.now.entries k None) }
-    ensures table { (sectors : ℕ) (image : List ℕ) → 68 ≤ sectors → sectors < 2 ^ 64 → AreWritable sectors gpt.now.entries → IsWritten sectors gpt.now image → ReadsAs sectors gpt.now image }
+    ensures table { IsReadWhereWritten gpt.now }
 {
     // From here on it is known that the identifier has 16 bytes.
     let _disk = guid_bytes(gpt.disk());

@@ -1,14 +1,20 @@
 -- A sector that was written for a head and slots is read as their table.
-use Rattle.std.proofs.Common.{◌-◌, ◌⊎◌, inl, inr, subst, ◌≡◌, ℕ, suc, ◌^◌, ◌<◌, ◌≤◌, true, List, [], ◌∷◌, ◌++◌, length, take, drop, map, get_or, refl, sym, ap, ◌∙◌, append_assoc, arith, add-zero}
-use Rattle.std.specs.List.{list_any}
+use Rattle.std.proofs.Common.{◌-◌, ◌⊎◌, inl, inr, subst, cond, false, None, Some, MatchOption, ◌≡◌, ℕ, suc, ◌^◌, ◌<◌, ◌≤◌, true, List, [], ◌∷◌, ◌++◌, length, take, drop, map, get_or, refl, sym, ap, ◌∙◌, append_assoc, arith, add-zero}
+use Rattle.std.specs.List.{list_any, find}
+use Rattle.std.proofs.lemmas.Bool.{and_parts, cases_lt}
+use Rattle.std.proofs.lemmas.Option.{MatchOption-at_some}
 use Rattle.std.proofs.lemmas.List.{length-append, append-nil, take_at, drop_at, take-map, get_or-map, get_or-drop, length-map}
 use Rattle.disk_base.specs.Image.{bytes_at, sector}
 use Rattle.mbr_table.specs.declared.slot.Slot.{Slot}
 use Rattle.mbr_table.specs.declared.slot.Logical.{Logical}
 use Rattle.mbr_table.specs.declared.fault.MbrFault.{MbrFault}
 use Rattle.mbr_table.specs.declared.fault.MbrFault.TheVariants.{NoSignature, Entry, Chain, TooMany, Device, Memory}
-use Rattle.mbr_table.specs.Slot.{slot_of, empty_slot, kept, entry_of, end_of, is_used, holds_extended, is_bad, IsBadEntry}
-use Rattle.mbr_table.specs.Mbr.{Table, HasSignature, IsSound, IsSectorTable, IsMbrTable, HasMbrFault, mbr_sector_of, table_of, ReadsBack}
+use Rattle.mbr_table.specs.Slot.{slot_of, empty_slot, kept, entry_of, end_of, is_used, is_extended, holds_extended, is_bad, IsBadEntry}
+use Rattle.mbr_table.specs.Signature.{HasSignature}
+use Rattle.mbr_table.specs.Mbr.{Table, slots_of, IsSound, IsFirstBad, IsOfDisk, IsSectorTable, IsMbrTable, IsSectorFault, HasMbrFault, AreLogicals, HasExtended, mbr_sector_of, table_of, ReadsBack}
+use Rattle.mbr_table.specs.Chain.{AreChained, ComesToBad, ComesTooFar, logicals_at}
+use Rattle.mbr_table.specs.inside.Walk.{IsLogicalsFault}
+use Rattle.mbr_table.proofs.Chains.{one_chain_at_most, none_bad, none_too_far, one_bad, one_too_far, not_both}
 use Rattle.mbr_table.proofs.Entries.{length-entry_of, kept-is_bad, any-kept, entry_read_back, good_bounds}
 
 -- a part is found behind what stands before it
@@ -24,15 +30,15 @@ byte before rest bytes b at is at-is =
     sym moved ∙ found
 
 -- four parts between a front and the signature
-record Parts (front a b c d bytes : List ℕ) : Type 0 where
-  signature : HasSignature bytes
-  at_front : bytes_at bytes 0 446 ≡ front
-  first : bytes_at bytes 446 16 ≡ a
-  second : bytes_at bytes 462 16 ≡ b
-  third : bytes_at bytes 478 16 ≡ c
-  fourth : bytes_at bytes 494 16 ≡ d
+pub record Parts (front a b c d bytes : List ℕ) : Type 0 where
+  pub signature : HasSignature bytes
+  pub at_front : bytes_at bytes 0 446 ≡ front
+  pub first : bytes_at bytes 446 16 ≡ a
+  pub second : bytes_at bytes 462 16 ≡ b
+  pub third : bytes_at bytes 478 16 ≡ c
+  pub fourth : bytes_at bytes 494 16 ≡ d
 
-four_parts : (front a b c d bytes : List ℕ) → bytes ≡ (front ++ (a ++ (b ++ (c ++ (d ++ []))))) ++ 0x55 ∷ 0xAA ∷ []
+pub four_parts : (front a b c d bytes : List ℕ) → bytes ≡ (front ++ (a ++ (b ++ (c ++ (d ++ []))))) ++ 0x55 ∷ 0xAA ∷ []
     → length front ≡ 446 → length a ≡ 16 → length b ≡ 16 → length c ≡ 16 → length d ≡ 16 → Parts front a b c d bytes
 four_parts front a b c d bytes is len a-len b-len c-len d-len =
     let sig : List ℕ = 0x55 ∷ 0xAA ∷ [] in
@@ -104,7 +110,6 @@ table_read_back sectors front slots bytes some back sound = record {
   head = sym back.head;
   slots = sym back.slots;
   sound = kept_sound sectors slots sound;
-  logicals = refl;
 }
 
 -- what is written for sound slots holds their table
@@ -129,28 +134,166 @@ pub used_bounds : (sectors : ℕ) (slots : List Slot) (i : ℕ) → IsSound sect
 used_bounds sectors slots i sound lt used =
     good_bounds sectors (list_any holds_extended (take i slots)) (get_or slots i empty_slot) used (sound.none_bad i lt)
 
--- a disk whose sector 0 spells a table has that table
-pub table_on_disk : (sectors : ℕ) (image bytes : List ℕ) (table : Table) → sector image 0 ≡ bytes → IsSectorTable sectors bytes table → IsMbrTable sectors image table
-table_on_disk sectors image bytes table same is = subst (λ (b : List ℕ). IsSectorTable sectors b table) (sym same) is
+-- where a slot is found that holds an extended partition
+record FoundAt (slots : List Slot) (extended : Slot) : Type 0 where
+  place : ℕ
+  inside : place < length slots
+  here : get_or slots place empty_slot ≡ extended
+  holds : holds_extended extended ≡ true
+
+found_at : (slots : List Slot) (extended : Slot) → find holds_extended slots ≡ Some extended → FoundAt slots extended
+found_at [] extended is = absurd cc
+found_at (slot ∷ slots) extended is =
+    elim (holds_extended slot) as (λ b. (holds_extended slot ≡ b) → cond b (Some slot) (find holds_extended slots) ≡ Some extended → FoundAt (slot ∷ slots) extended) [
+      | true ↦ λ holds found.
+          let same : slot ≡ extended = cc in
+          record { place = 0; inside = omega arith; here = same; holds = ap holds_extended (sym same) ∙ holds }
+      | false ↦ λ holds found.
+          let rest : FoundAt slots extended = found_at slots extended found in
+          record { place = suc rest.place; inside = omega (arith, rest.inside); here = rest.here; holds = rest.holds }
+    ] refl is
+
+-- the extended partition of sound slots lies behind sector 0 and on the disk
+pub found_bounds : (sectors : ℕ) (slots : List Slot) (extended : Slot) → find holds_extended slots ≡ Some extended → IsSound sectors slots
+    → (1 ≤ extended.start) × (end_of extended ≤ sectors)
+found_bounds sectors slots extended is sound =
+    let found : FoundAt slots extended = found_at slots extended is in
+    let used : is_used extended ≡ true = (and_parts (is_used extended) (is_extended extended) found.holds).0 in
+    let P : Slot → Type 0 = λ s. (1 ≤ s.start) × (end_of s ≤ sectors) in
+    subst P found.here (used_bounds sectors slots found.place sound (omega (arith, found.inside, sound.four)) (ap is_used found.here ∙ used))
+
+-- a disk whose sector 0 spells a table without an extended partition has that table
+pub table_on_disk : (sectors : ℕ) (image bytes : List ℕ) (table : Table) → sector image 0 ≡ bytes → IsSectorTable sectors bytes table
+    → find holds_extended table.slots ≡ None → table.logicals ≡ [] → IsMbrTable sectors image table
+table_on_disk sectors image bytes table same is plain none = record {
+  in_sector = subst (λ (b : List ℕ). IsSectorTable sectors b table) (sym same) is;
+  logicals = rw plain none;
+}
+
+-- the logical partitions of a disk are given by its slots
+one_list : (image : List ℕ) (slots : List Slot) (a b : List Logical) → AreLogicals image slots a → AreLogicals image slots b → a ≡ b
+one_list image slots a b a-are b-are =
+    elim (find holds_extended slots) as (λ o. MatchOption o (a ≡ []) (λ e. AreChained image e a) → MatchOption o (b ≡ []) (λ e. AreChained image e b) → a ≡ b) [
+      | None ↦ λ a-none b-none. a-none ∙ sym b-none
+      | Some extended ↦ λ a-is b-is.
+          a-is.logicals_are ∙ ap (logicals_at image) (one_chain_at_most image extended b-is.places a-is.places b-is.chain a-is.chain) ∙ sym b-is.logicals_are
+    ] a-are b-are
 
 -- a disk has one table
-pub one_table : (sectors : ℕ) (image : List ℕ) (a b : Table) → IsMbrTable sectors image a → IsMbrTable sectors image b → a ≡ b
-one_table sectors image a b a-is b-is =
-    let head : a.head ≡ b.head = a-is.head ∙ sym b-is.head in
-    let slots : a.slots ≡ b.slots = a-is.slots ∙ sym b-is.slots in
-    let logicals : a.logicals ≡ b.logicals = a-is.logicals ∙ sym b-is.logicals in
+pub one_table_at_most : (sectors : ℕ) (image : List ℕ) (a b : Table) → IsMbrTable sectors image a → IsMbrTable sectors image b → a ≡ b
+one_table_at_most sectors image a b a-is b-is =
+    let head : a.head ≡ b.head = a-is.in_sector.head ∙ sym b-is.in_sector.head in
+    let slots : a.slots ≡ b.slots = a-is.in_sector.slots ∙ sym b-is.in_sector.slots in
+    let logicals : a.logicals ≡ b.logicals =
+    one_list image b.slots a.logicals b.logicals (subst (λ (s : List Slot). AreLogicals image s a.logicals) slots a-is.logicals) b-is.logicals in
     let made : List ℕ → List Slot → List Logical → Table = λ h s l. record { head = h; slots = s; logicals = l } in
     ap (λ (h : List ℕ). made h a.slots a.logicals) head ∙ ap (λ (s : List Slot). made b.head s a.logicals) slots ∙ ap (made b.head b.slots) logicals
 
+-- the extended partition of a disk with a table has a chain
+chained : (sectors : ℕ) (image : List ℕ) (table : Table) (extended : Slot) → IsMbrTable sectors image table → HasExtended sectors (sector image 0) extended
+    → AreChained image extended table.logicals
+chained sectors image table extended is has =
+    MatchOption-at_some (table.logicals ≡ []) (λ e. AreChained image e table.logicals) extended (ap (find holds_extended) is.in_sector.slots ∙ has.found) is.logicals
+
 -- a disk with a table gives no reason to refuse it
 pub no_fault : (sectors : ℕ) (image : List ℕ) (table : Table) (fault : MbrFault) → IsMbrTable sectors image table → HasMbrFault sectors image fault → (fault ≡ Device) ⊎ (fault ≡ Memory)
-no_fault sectors image table NoSignature is (inl none) = absurd (omega (arith, is.some))
-no_fault sectors image table NoSignature is (inr unsigned) = absurd (unsigned is.signature)
+no_fault sectors image table NoSignature is (inl none) = absurd (omega (arith, is.in_sector.some))
+no_fault sectors image table NoSignature is (inr unsigned) = absurd (unsigned is.in_sector.signature)
 no_fault sectors image table (Entry number) is has =
     let first = has.2 in
-    let bad : IsBadEntry sectors table.slots (number - 1) = subst (λ (s : List Slot). IsBadEntry sectors s (number - 1)) (sym is.slots) first.bad in
-    absurd (is.sound.none_bad (number - 1) (omega (arith, first.counted)) bad)
-no_fault sectors image table (Chain at) is has = absurd has
-no_fault sectors image table (TooMany at) is has = absurd has
+    let bad : IsBadEntry sectors table.slots (number - 1) = subst (λ (s : List Slot). IsBadEntry sectors s (number - 1)) (sym is.in_sector.slots) first.bad in
+    absurd (is.in_sector.sound.none_bad (number - 1) (omega (arith, first.counted)) bad)
+no_fault sectors image table (Chain at) is has =
+    let chain = chained sectors image table has.0 is has.1 in
+    absurd (none_bad image has.0 chain.places at chain.chain has.2)
+no_fault sectors image table (TooMany at) is has =
+    let chain = chained sectors image table has.0 is has.1 in
+    absurd (none_too_far image has.0 chain.places at chain.chain has.2)
 no_fault sectors image table Device is has = inl refl
 no_fault sectors image table Memory is has = inr refl
+
+-- what speaks against sector 0 speaks against the disk
+pub sector_fault : (sectors : ℕ) (image bytes : List ℕ) (fault : MbrFault) → bytes ≡ sector image 0 → IsSectorFault sectors bytes fault → HasMbrFault sectors image fault
+sector_fault sectors image bytes NoSignature same why = subst (λ (b : List ℕ). IsSectorFault sectors b NoSignature) same why
+sector_fault sectors image bytes (Entry number) same why = subst (λ (b : List ℕ). IsSectorFault sectors b (Entry number)) same why
+sector_fault sectors image bytes (Chain at) same why = absurd why
+sector_fault sectors image bytes (TooMany at) same why = absurd why
+sector_fault sectors image bytes Device same why = absurd why
+sector_fault sectors image bytes Memory same why = absurd why
+
+has_extended : (sectors : ℕ) (bytes : List ℕ) (table : Table) (extended : Slot) → IsSectorTable sectors bytes table → find holds_extended table.slots ≡ Some extended
+    → HasExtended sectors bytes extended
+has_extended sectors bytes table extended is found = record {
+  some = is.some;
+  signature = is.signature;
+  sound = subst (IsSound sectors) is.slots is.sound;
+  found = ap (find holds_extended) (sym is.slots) ∙ found;
+}
+
+-- and so does what speaks against the chain of the extended partition in sector 0
+pub logicals_fault : (sectors : ℕ) (image : List ℕ) (table : Table) (fault : MbrFault) → IsSectorTable sectors (sector image 0) table
+    → IsLogicalsFault image table.slots fault → HasMbrFault sectors image fault
+logicals_fault sectors image table NoSignature is why = absurd why.2
+logicals_fault sectors image table (Entry number) is why = absurd why.2
+logicals_fault sectors image table (Chain at) is why = (why.0, has_extended sectors (sector image 0) table why.0 is why.1, why.2)
+logicals_fault sectors image table (TooMany at) is why = (why.0, has_extended sectors (sector image 0) table why.0 is why.1, why.2)
+logicals_fault sectors image table Device is why = tt
+logicals_fault sectors image table Memory is why = tt
+
+-- one slot is the first bad one
+one_first_bad : (sectors : ℕ) (slots : List Slot) (a b : ℕ) → IsFirstBad sectors slots a → IsFirstBad sectors slots b → a ≡ b
+one_first_bad sectors slots a b a-is b-is =
+    elim (cases_lt a b) [
+      | inl lt ↦ absurd (b-is.none_before (a - 1) (omega (arith, a-is.counted)) a-is.bad)
+      | inr ge ↦ elim (cases_lt b a) [
+        | inl lt ↦ absurd (a-is.none_before (b - 1) (omega (arith, b-is.counted)) b-is.bad)
+        | inr le ↦ omega arith
+      ]
+    ]
+
+-- a sector that spells a table has the signature and no bad slot
+unsigned_only : (sectors : ℕ) (bytes : List ℕ) → 0 < sectors → HasSignature bytes → IsSectorFault sectors bytes NoSignature → ⊥
+unsigned_only sectors bytes some signed (inl none) = omega arith
+unsigned_only sectors bytes some signed (inr unsigned) = unsigned signed
+
+sound_only : (sectors : ℕ) (bytes : List ℕ) (extended : Slot) (number : ℕ) → HasExtended sectors bytes extended → IsFirstBad sectors (slots_of bytes) number → ⊥
+sound_only sectors bytes extended number has first = has.sound.none_bad (number - 1) (omega (arith, first.counted)) first.bad
+
+-- a table has one extended partition
+one_extended : (sectors : ℕ) (bytes : List ℕ) (a b : Slot) → HasExtended sectors bytes a → HasExtended sectors bytes b → a ≡ b
+one_extended sectors bytes a b a-has b-has =
+    let first = a-has.found in
+    let second = b-has.found in
+    cc
+
+-- one reason stands against a disk
+pub one_fault_at_most : (sectors : ℕ) (image : List ℕ) (one other : MbrFault) → HasMbrFault sectors image one → HasMbrFault sectors image other
+    → IsOfDisk one → IsOfDisk other → other ≡ one
+one_fault_at_most sectors image NoSignature NoSignature a b p q = refl
+one_fault_at_most sectors image NoSignature (Entry n) a b p q = absurd (unsigned_only sectors (sector image 0) b.0 b.1 a)
+one_fault_at_most sectors image NoSignature (Chain at) a b p q = absurd (unsigned_only sectors (sector image 0) b.1.some b.1.signature a)
+one_fault_at_most sectors image NoSignature (TooMany at) a b p q = absurd (unsigned_only sectors (sector image 0) b.1.some b.1.signature a)
+one_fault_at_most sectors image (Entry n) NoSignature a b p q = absurd (unsigned_only sectors (sector image 0) a.0 a.1 b)
+one_fault_at_most sectors image (Entry n) (Entry m) a b p q = ap Entry (one_first_bad sectors (slots_of (sector image 0)) m n b.2 a.2)
+one_fault_at_most sectors image (Entry n) (Chain at) a b p q = absurd (sound_only sectors (sector image 0) b.0 n b.1 a.2)
+one_fault_at_most sectors image (Entry n) (TooMany at) a b p q = absurd (sound_only sectors (sector image 0) b.0 n b.1 a.2)
+one_fault_at_most sectors image (Chain at) NoSignature a b p q = absurd (unsigned_only sectors (sector image 0) a.1.some a.1.signature b)
+one_fault_at_most sectors image (Chain at) (Entry n) a b p q = absurd (sound_only sectors (sector image 0) a.0 n a.1 b.2)
+one_fault_at_most sectors image (Chain at) (Chain place) a b p q =
+    let same : b.0 ≡ a.0 = one_extended sectors (sector image 0) b.0 a.0 b.1 a.1 in
+    ap Chain (one_bad image a.0 place at (subst (λ (e : Slot). ComesToBad image e place) same b.2) a.2)
+one_fault_at_most sectors image (Chain at) (TooMany place) a b p q =
+    let same : b.0 ≡ a.0 = one_extended sectors (sector image 0) b.0 a.0 b.1 a.1 in
+    absurd (not_both image a.0 at place a.2 (subst (λ (e : Slot). ComesTooFar image e place) same b.2))
+one_fault_at_most sectors image (TooMany at) NoSignature a b p q = absurd (unsigned_only sectors (sector image 0) a.1.some a.1.signature b)
+one_fault_at_most sectors image (TooMany at) (Entry n) a b p q = absurd (sound_only sectors (sector image 0) a.0 n a.1 b.2)
+one_fault_at_most sectors image (TooMany at) (Chain place) a b p q =
+    let same : b.0 ≡ a.0 = one_extended sectors (sector image 0) b.0 a.0 b.1 a.1 in
+    absurd (not_both image a.0 place at (subst (λ (e : Slot). ComesToBad image e place) same b.2) a.2)
+one_fault_at_most sectors image (TooMany at) (TooMany place) a b p q =
+    let same : b.0 ≡ a.0 = one_extended sectors (sector image 0) b.0 a.0 b.1 a.1 in
+    ap TooMany (one_too_far image a.0 place at (subst (λ (e : Slot). ComesTooFar image e place) same b.2) a.2)
+one_fault_at_most sectors image Device other a b p q = absurd p
+one_fault_at_most sectors image Memory other a b p q = absurd p
+one_fault_at_most sectors image one Device a b p q = absurd q
+one_fault_at_most sectors image one Memory a b p q = absurd q

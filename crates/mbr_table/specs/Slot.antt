@@ -52,10 +52,13 @@ IsBadEntry sectors slots i =
 abbrev pub kept : Slot → Slot
 kept slot = if is_used slot then slot else empty_slot
 
--- the entry that is written for a slot; FE FF FF in place of an address by cylinder, head and sector says that
--- the numbers of sectors alone count
+-- an entry that says what a slot says; FE FF FF in place of an address by cylinder, head and sector says that the
+-- numbers of sectors alone count
+abbrev pub entry_bytes : Slot → List ℕ
+entry_bytes slot =
+    slot.status ∷ 0xFE ∷ 0xFF ∷ 0xFF ∷ slot.kind ∷ 0xFE ∷ 0xFF ∷ 0xFF ∷ [] ++ little_bytes 4 slot.start
+    ++ little_bytes 4 slot.count
+
+-- the entry that is written for a slot
 abbrev pub entry_of : Slot → List ℕ
-entry_of slot =
-    if is_used slot
-    then slot.status ∷ 0xFE ∷ 0xFF ∷ 0xFF ∷ slot.kind ∷ 0xFE ∷ 0xFF ∷ 0xFF ∷ [] ++ little_bytes 4 slot.start ++ little_bytes 4 slot.count
-    else replicate 16 0
+entry_of slot = if is_used slot then entry_bytes slot else replicate 16 0

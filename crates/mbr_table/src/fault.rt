@@ -3,6 +3,7 @@ ghost use Rattle.std.specs.Prelude.{◌≡◌};
 ghost use Rattle.mbr_table.specs.declared.fault.MbrFault.TheVariants as faults;
 
 use disk_base::Failed;
+use std::alloc::AllocFailed;
 use thiserror::Error;
 
 /// Why a disk has no table.
@@ -15,10 +16,11 @@ pub enum MbrFault {
     /// second extended partition.
     #[error("Entry number={number}")]
     Entry { number: u32 },
-    /// The extended boot record in that sector is bad.
+    /// The extended boot record in that sector lies outside the extended partition, came before in the
+    /// chain, doesn't end with 55 AA, or has a logical partition that starts at it or ends outside.
     #[error("Chain at={at}")]
     Chain { at: u64 },
-    /// The extended boot record in that sector is one more than is read.
+    /// The extended boot record in that sector would be the 61st of its chain.
     #[error("TooMany at={at}")]
     TooMany { at: u64 },
     /// The disk failed.
@@ -34,5 +36,13 @@ impl From<Failed> for MbrFault {
 
     fn from(_failed: Failed) -> MbrFault {
         MbrFault::Device
+    }
+}
+
+impl<T: Drop> From<AllocFailed<T>> for MbrFault {
+    ghost from_gives = { λ _ fault. fault ≡ faults.Memory };
+
+    fn from(_refused: AllocFailed<T>) -> MbrFault {
+        MbrFault::Memory
     }
 }

@@ -1,22 +1,27 @@
-//! The classic partition table in sector 0 of a disk, read and written.
+//! The classic partition table of a disk, in sector 0 and a chain of extended boot records, read and written.
 //!
 //! It promises upwards: [`read_mbr`] gives the table that the disk has, or says exactly why it has none;
-//! [`mbr_sector`] makes the sector that reads back as a head and slots; [`is_protective`] tells a table
-//! that only stands in for another one. `specs/Mbr.antt` says what the table of a disk is.
+//! [`judge_sector`] does so for a sector 0 that was read already, without the chain; [`mbr_sector`] and
+//! [`ebr_sector`] make the sectors that read back as a head and slots and as a chain; [`is_protective`]
+//! tells a table that only stands in for another one; [`one_table`], [`one_fault`], [`one_chain`],
+//! [`chain_reads_back`] and [`table_reads_back`] are laws. `specs/Mbr.antt` and `specs/Chain.antt` say what the table of a disk is.
 //!
-//! It stands on disk_base for disks and on byteorder for numbers. It reads sector 0 alone: the logical
-//! partitions inside an extended one have types here, and no table has any yet.
+//! It stands on disk_base for disks and their bytes, and on byteorder for numbers.
 #![tactic(auto)]
 
+mod chain;
 mod fault;
 mod mbr;
+mod sector;
 mod slot;
 mod writing;
 
+pub use chain::one_chain;
 pub use fault::MbrFault;
-pub use mbr::{Mbr, is_protective, read_mbr};
+pub use mbr::{Mbr, one_fault, one_table, read_mbr};
+pub use sector::{SectorTable, is_protective, judge_sector};
 pub use slot::{Logical, Slot};
-pub use writing::mbr_sector;
+pub use writing::{chain_reads_back, ebr_sector, mbr_sector, table_reads_back};
 
 #[cfg(test)]
 mod tests;

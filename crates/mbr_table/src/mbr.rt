@@ -1,33 +1,33 @@
 //! Reading the table.
-ghost use Rattle.std.specs.Prelude.{◌≡◌, ◌^◌, ◌<◌, ◌≤◌, IsTrue, ◌↔◌, OnOk, IfOk, IfErr, IsErrOf, MatchOption};
-ghost use Rattle.std.specs.List.{list_any};
+ghost use Rattle.std.specs.Prelude.{◌≡◌, ◌^◌, ◌<◌, ◌≤◌, IsTrue, OnOk, IfOk, IfErr, IsErrOf};
 ghost use Rattle.disk_base.specs.Faults.{Rose};
-ghost use Rattle.mbr_table.specs.Slot.{stands_in};
-ghost use Rattle.mbr_table.specs.Mbr.{HasSignature, IsProtective, IsSound, IsFirstBad, IsMbrTable, HasMbrFault, IsSectorTable, IsSectorFault, slots_of};
+ghost use Rattle.mbr_table.specs.Mbr.{IsSound, IsMbrTable, HasMbrFault, AreWithin, AreLogicals, OneTable, OneFault};
+ghost use Rattle.mbr_table.specs.inside.Walk.{IsReadSector, IsLogicalsFault};
 
+use crate::chain::read_chain;
 use crate::fault::MbrFault;
-use crate::slot::{Logical, Slot, slot_in};
-use disk_base::{Blocks, List, SECTOR};
+use crate::sector::{SectorTable, extended_in, judge_sector};
+use crate::slot::{Logical, Slot};
+use disk_base::{Blocks, SECTOR};
 use std::alloc::Global;
 use std::marker::Model;
-
-/// The type byte of a slot that stands in for another table.
-const PROTECTIVE: u8 = 0xEE;
 
 /// The table of a disk.
 #[derive(Debug, Drop)]
 pub struct Mbr {
     head: [u8; 446],
     slots: [Slot; 4],
-    logicals: List<Logical>,
+    logicals: Vec<Logical>,
 }
 
 impl Model for Mbr {
-    ghost use Rattle.mbr_table.specs.Mbr.{Table};
+    ghost use Rattle.mbr_table.specs.Mbr.{Table, AreWithin};
 
     ghost Value = { Table };
 
-    ghost view = { λ m. record { head = m.head; slots = m.slots; logicals = m.logicals } };
+    ghost view = { λ m. record { head = m.head; slots = m.slots; logicals = m.logicals.items } };
+
+    ghost invariant = { λ m. AreWithin m.slots m.logicals.items };
 }
 
 impl Mbr {
@@ -47,70 +47,70 @@ impl Mbr {
 
     /// The logical partitions, in the order of their chain.
     pub fn logicals(&self) -> &[Logical]
-        ensures { result.now ≡ self.now.logicals }
+        ensures logicals { result.now ≡ self.now.logicals }
+        ensures within { AreWithin self.now.slots self.now.logicals }
     {
-        self.logicals.items()
+        self.logicals.as_slice()
     }
 }
 
-/// Whether a sector ends with 55 AA.
-fn has_signature(sector: &[u8; SECTOR]) -> bool
-    ensures { IsTrue result ↔ HasSignature sector.now }
+/// What sector 0 says.
+fn read_sector<B: Blocks>(disk: &mut B) -> Result<SectorTable, MbrFault>
+    requires some { 0 < B.size disk.old }
+    ensures read { B.only_read disk.old disk.new }
+    ensures found { IfOk result (λ found. IsReadSector B.tells (B.image disk.old) (B.size disk.old) found) }
+    ensures fault { IsTrue B.tells → IfErr result (λ fault. HasMbrFault (B.size disk.old) (B.image disk.old) fault) }
+    ensures device { IsErrOf result MbrFault.Device → Rose (B.faults disk.old) (B.faults disk.new) }
 {
-    sector[510] == 0x55 && sector[511] == 0xAA
+    let sectors = disk.sectors();
+    let mut bytes = [0; SECTOR];
+    disk.read(0, &mut bytes)?;
+    judge_sector(sectors, &bytes)
 }
 
-/// The four slots of a sector.
-fn slots_in(sector: &[u8; SECTOR]) -> [Slot; 4]
-    ensures { result ≡ slots_of sector.now }
+/// The logical partitions of a disk whose table has these slots.
+fn read_logicals<B: Blocks>(
+    alloc: Global,
+    disk: &mut B,
+    slots: &[Slot; 4],
+) -> Result<Vec<Logical>, MbrFault>
+    requires sound { IsSound (B.size disk.old) slots.now }
+    requires addressed { B.size disk.old ≤ 2 ^ 31 }
+    ensures read { B.only_read disk.old disk.new }
+    ensures within { IfOk result (λ all. AreWithin slots.now all.items) }
+    ensures logicals { IsTrue B.tells → IfOk result (λ all. AreLogicals (B.image disk.old) slots.now all.items) }
+    ensures fault { IsTrue B.tells → IfErr result (λ fault. IsLogicalsFault (B.image disk.old) slots.now fault) }
+    ensures device { IsErrOf result MbrFault.Device → Rose (B.faults disk.old) (B.faults disk.new) }
 {
-    [
-        slot_in(&sector[446..462]),
-        slot_in(&sector[462..478]),
-        slot_in(&sector[478..494]),
-        slot_in(&sector[494..510]),
-    ]
+    match extended_in(slots) {
+        Some(extended) => read_chain(alloc, disk, &extended),
+        None => Ok(Vec::new(alloc)),
+    }
 }
 
-/// The number, counted from 1, of the first bad slot.
-fn first_bad(sectors: u64, slots: &[Slot; 4]) -> Option<u32>
-    ensures { MatchOption result (IsSound sectors slots.now) (λ number. IsFirstBad sectors slots.now number) }
+/// The table of a disk that has sectors.
+fn read_table<B: Blocks>(alloc: Global, disk: &mut B) -> Result<Mbr, MbrFault>
+    requires some { 0 < B.size disk.old }
+    requires addressed { B.size disk.old ≤ 2 ^ 31 }
+    ensures read { B.only_read disk.old disk.new }
+    ensures table { IsTrue B.tells → IfOk result (λ table. IsMbrTable (B.size disk.old) (B.image disk.old) table) }
+    ensures fault { IsTrue B.tells → IfErr result (λ fault. HasMbrFault (B.size disk.old) (B.image disk.old) fault) }
+    ensures sound { IfOk result (λ table. IsSound (B.size disk.old) table.slots) }
+    ensures within { IfOk result (λ table. AreWithin table.slots table.logicals) }
+    ensures device { IsErrOf result MbrFault.Device → Rose (B.faults disk.old) (B.faults disk.new) }
 {
-    let mut extended = false;
-    for (i, slot) in slots.iter().enumerate() {
-        if slot.is_bad(sectors, extended) {
-            return Some(i as u32 + 1);
-        }
-        extended |= slot.holds_extended();
-    }
-    None
-}
-
-/// The table that sector 0 of a disk of that many sectors spells.
-fn table_in(alloc: Global, sectors: u64, sector: &[u8; SECTOR]) -> Result<Mbr, MbrFault>
-    requires { 0 < sectors }
-    ensures table { IfOk result (λ table. IsSectorTable sectors sector.now table) }
-    ensures fault { IfErr result (λ fault. IsSectorFault sectors sector.now fault) }
-    ensures device { IsErrOf result MbrFault.Device → ⊥ }
-{
-    if !has_signature(sector) {
-        return Err(MbrFault::NoSignature);
-    }
-    let slots = slots_in(sector);
-    if let Some(number) = first_bad(sectors, &slots) {
-        return Err(MbrFault::Entry { number });
-    }
-    let mut head = [0; 446];
-    head.copy_from_slice(&sector[..446]);
+    let found = read_sector(disk)?;
+    let logicals = read_logicals(alloc, disk, &found.slots)?;
     Ok(Mbr {
-        head,
-        slots,
-        logicals: List::new(alloc),
+        head: found.head,
+        slots: found.slots,
+        logicals,
     })
 }
 
-/// The table of a disk, in sectors of 512 bytes. Of a disk without sectors nothing is read. After
-/// `Device` and `Memory` nothing is known of the table.
+/// The table of a disk, in sectors of 512 bytes: sector 0 is read, and where it has an extended partition
+/// each record of its chain, once. Of a disk without sectors nothing is read. After `Device` and `Memory`
+/// nothing is known of the table.
 pub fn read_mbr<B: Blocks>(alloc: Global, disk: &mut B) -> Result<Mbr, MbrFault>
     requires { B.size disk.old ≤ 2 ^ 31 }
     ensures read { B.only_read disk.old disk.new }
@@ -118,30 +118,24 @@ pub fn read_mbr<B: Blocks>(alloc: Global, disk: &mut B) -> Result<Mbr, MbrFault>
     ensures fault { IsTrue B.tells → IfErr result (λ fault. HasMbrFault (B.size disk.old) (B.image disk.old) fault) }
     ensures some { OnOk result (0 < B.size disk.old) }
     ensures sound { IfOk result (λ table. IsSound (B.size disk.old) table.slots) }
+    ensures within { IfOk result (λ table. AreWithin table.slots table.logicals) }
     ensures empty { B.size disk.old ≡ 0 → IsErrOf result MbrFault.NoSignature }
     ensures unread { B.size disk.old ≡ 0 → disk.new ≡ disk.old }
     ensures device { IsErrOf result MbrFault.Device → Rose (B.faults disk.old) (B.faults disk.new) }
 {
-    let sectors = disk.sectors();
-    if sectors == 0 {
+    if disk.sectors() == 0 {
         return Err(MbrFault::NoSignature);
     }
-    let mut sector = [0; SECTOR];
-    disk.read(0, &mut sector)?;
-    table_in(alloc, sectors, &sector)
+    read_table(alloc, disk)
 }
 
-/// Whether one of the slots has the type that stands in for another table.
-fn has_protective(slots: &[Slot]) -> bool
-    ensures { result ≡ list_any stands_in slots.now }
-{
-    slots.iter().any(|slot| slot.kind == PROTECTIVE)
-}
+/// The law that a disk has at most one table, and no reason against it where it has one. A call does nothing.
+pub fn one_table()
+    ensures { OneTable }
+{}
 
-/// Whether a sector has the signature and a slot of the type that stands in for another table (UEFI
-/// specification, 5.2.3).
-pub fn is_protective(sector: &[u8; 512]) -> bool
-    ensures { IsTrue result ↔ IsProtective sector.now }
-{
-    has_signature(sector) && has_protective(&slots_in(sector))
-}
+/// The law that at most one reason stands against a disk, beside a device's fault and want of memory. A call
+/// does nothing.
+pub fn one_fault()
+    ensures { OneFault }
+{}

@@ -4,17 +4,22 @@ ghost use Rattle.std.proofs.Math.Nat.{le_refl};
 ghost use Rattle.std.proofs.lemmas.Bool.{false≢true};
 ghost use Rattle.disk_base.specs.Faults.{HasCause};
 
+mod chains;
+
 use super::*;
 use disk_base::{Blocks, Failed};
 use std::alloc::Global;
 use std::test::*;
 
-/// A disk whose sector 0 is `sector`, of `sectors` sectors, which fails where it is told to.
+/// A disk of `sectors` sectors, of which those listed in `written` hold these bytes and the others zero. It
+/// counts its reads, and the read with the number `failing`, counted from 0, fails.
 #[derive(Drop)]
 struct Small {
     sectors: u64,
-    sector: [u8; 512],
-    fails: bool,
+    written: Vec<(u64, [u8; 512])>,
+    reads: u64,
+    failing: u64,
+    ghost few: { sectors ≤ 2 ^ 31 },
 }
 
 impl Blocks for Small {
@@ -46,14 +51,30 @@ impl Blocks for Small {
         self.sectors
     }
 
-    fn read(&mut self, _at: u64, out: &mut [u8]) -> Result<(), Failed> {
-        if self.fails {
+    fn read(&mut self, at: u64, out: &mut [u8]) -> Result<(), Failed> {
+        let number = self.reads;
+        self.reads = number.saturating_add(1);
+        if number == self.failing {
             return Err(Failed);
         }
-        for (to, from) in out.iter_mut().zip(self.sector) {
-            *to = from;
-        }
+        fill(&self.written, at, out);
         Ok(())
+    }
+}
+
+/// The bytes of that sector.
+fn fill(written: &[(u64, [u8; 512])], at: u64, out: &mut [u8]) {
+    out.fill(0);
+    for (place, bytes) in written {
+        if *place == at {
+            copy(bytes, out);
+        }
+    }
+}
+
+fn copy(bytes: &[u8; 512], out: &mut [u8]) {
+    for (to, from) in out.iter_mut().zip(bytes) {
+        *to = *from;
     }
 }
 
@@ -88,15 +109,17 @@ fn sector_of(slots: &[Slot; 4]) -> [u8; 512] {
     sector
 }
 
+fn small_of(sectors: u16, written: Vec<(u64, [u8; 512])>) -> Small {
+    Small {
+        sectors: u64::from(sectors),
+        written,
+        reads: 0,
+        failing: u64::MAX,
+    }
+}
+
 fn read_small(alloc: Global, sectors: u16, sector: [u8; 512]) -> Result<Mbr, MbrFault> {
-    read_mbr(
-        alloc,
-        &mut Small {
-            sectors: u64::from(sectors),
-            sector,
-            fails: false,
-        },
-    )
+    read_mbr(alloc, &mut small_of(sectors, vec![in alloc; (0, sector)]?))
 }
 
 fn entry_at(sector: &[u8; 512], i: usize) -> &[u8]
@@ -128,39 +151,45 @@ fn writes_the_entries_of_slots(rt: HostRuntime) {
 
 #[test]
 fn reads_tables(rt: HostRuntime) -> Result<(), Fail> {
-    let sound = [plain(2048, 20480), extended(22528, 43007), EMPTY, EMPTY];
+    let sound = [plain(2048, 20480), plain(22528, 43007), EMPTY, EMPTY];
     let sector = sector_of(&sound);
-    let table = read_small(rt.alloc(), 65535, sector)
-        .ok()
-        .ok_or("the table is sound")?;
+    let table = read_small(rt.alloc(), 65535, sector)?;
     assert_eq!(rt; table.head().as_slice(), [7; 446].as_slice());
     assert_eq!(rt; table.slots().as_slice(), sound.as_slice());
     assert_eq!(rt; table.logicals().len(), 0);
+    let judged = judge_sector(65535, &sector)?;
+    assert_eq!(rt; judged.head.as_slice(), [7; 446].as_slice());
+    assert_eq!(rt; judged.slots.as_slice(), sound.as_slice());
     assert!(rt; !is_protective(&sector));
+    one_table();
+    one_fault();
     Ok(())
 }
 
 #[test]
 fn says_why_there_is_no_table(rt: HostRuntime) {
     let sound = sector_of(&[plain(2048, 20480), plain(22528, 43007), EMPTY, EMPTY]);
+    let lone = sector_of(&[plain(2048, 20480), EMPTY, EMPTY, EMPTY]);
     let past = sector_of(&[plain(2048, 63488), EMPTY, EMPTY, EMPTY]);
     let at_zero = sector_of(&[plain(2048, 1), plain(0, 1), EMPTY, EMPTY]);
     let twice = sector_of(&[extended(1, 8), plain(9, 1), extended(10, 8), EMPTY]);
     let cases = [
         (0, sound, MbrFault::NoSignature),
         (65535, [0; 512], MbrFault::NoSignature),
+        (20000, lone, MbrFault::Entry { number: 1 }),
         (65535, past, MbrFault::Entry { number: 1 }),
         (65535, at_zero, MbrFault::Entry { number: 2 }),
         (65535, twice, MbrFault::Entry { number: 3 }),
     ];
     for (sectors, sector, fault) in cases {
         assert_eq!(rt; read_small(rt.alloc(), sectors, sector).err(), Some(fault));
+        assert_eq!(rt;
+            judge_sector(u64::from(sectors), &sector).err(),
+            Some(fault)
+        );
     }
-    let mut failing = Small {
-        sectors: 65535,
-        sector: sound,
-        fails: true,
-    };
+    let mut failing = small_of(65535, Vec::new(rt.alloc()));
+    failing.failing = 0;
     assert_eq!(rt;
         read_mbr(rt.alloc(), &mut failing).err(),
         Some(MbrFault::Device)

@@ -1,21 +1,28 @@
-//! Writing the table.
-ghost use Rattle.std.specs.Prelude.{◌≡◌, ℕ, ◌+◌, ◌<◌, ◌≤◌, ◌++◌, length, take};
-ghost use Rattle.mbr_table.specs.Slot.{slot_of, kept, entry_of};
+//! Writing the table and the records of a chain.
+ghost use Rattle.std.specs.Prelude.{◌≡◌, ℕ, ◌+◌, ◌<◌, ◌≤◌, ◌++◌, length, take, option_map, MatchOption};
+ghost use Rattle.mbr_table.specs.Signature.{HasSignature};
+ghost use Rattle.mbr_table.specs.Slot.{slot_of, empty_slot, kept, entry_bytes, entry_of};
+ghost use Rattle.mbr_table.specs.Chain.{own_of, next_of};
+ghost use Rattle.mbr_table.specs.Record.{link_slot, link_entry_of, ebr_sector_of, ChainReadsBack, TableReadsBack};
 ghost use Rattle.mbr_table.specs.Mbr.{IsSectorTable, IsSound, ReadsBack, mbr_sector_of, table_of};
 
 use crate::slot::Slot;
+use disk_base::put;
 
 /// What stands in place of an address by cylinder, head and sector.
 const NO_ADDRESS: [u8; 3] = [0xFE, 0xFF, 0xFF];
 
-/// The entry of a slot.
-fn entry(slot: &Slot) -> [u8; 16]
-    ensures bytes { result ≡ entry_of slot.now }
-    ensures read_back { slot_of result ≡ kept slot.now }
+/// What ends a sector.
+const SIGNATURE: [u8; 2] = [0x55, 0xAA];
+
+/// The type of the slot that stands for the next record of a chain.
+const NEXT_RECORD: u8 = 0x05;
+
+/// The entry that says what a slot says.
+fn spelled(slot: &Slot) -> [u8; 16]
+    ensures bytes { result ≡ entry_bytes slot.now }
+    ensures read_back { slot_of result ≡ slot.now }
 {
-    if !slot.is_used() {
-        return [0; 16];
-    }
     let Slot {
         status,
         kind,
@@ -28,12 +35,31 @@ fn entry(slot: &Slot) -> [u8; 16]
     [status, a, b, c, kind, a, b, c, s, t, u, v, w, x, y, z]
 }
 
-/// Writes `bytes` from place `at` on, behind what stands before it.
-fn put(out: &mut [u8; 512], at: usize, bytes: &[u8])
-    requires { at + length bytes.now ≤ 512 }
-    ensures { take (at + length bytes.now) out.new ≡ take at out.old ++ bytes.now }
+/// The entry of a slot.
+fn entry(slot: &Slot) -> [u8; 16]
+    ensures bytes { result ≡ entry_of slot.now }
+    ensures read_back { slot_of result ≡ kept slot.now }
 {
-    out[at..at + bytes.len()].copy_from_slice(bytes);
+    if !slot.is_used() {
+        return [0; 16];
+    }
+    spelled(slot)
+}
+
+/// The entry for the next record of a chain.
+fn link_entry(next: Option<(u32, u32)>) -> [u8; 16]
+    ensures bytes { result ≡ link_entry_of next }
+    ensures read_back { MatchOption next (slot_of result ≡ empty_slot) (λ link. slot_of result ≡ link_slot link) }
+{
+    let Some((start, count)) = next else {
+        return [0; 16];
+    };
+    spelled(&Slot {
+        status: 0,
+        kind: NEXT_RECORD,
+        start,
+        count,
+    })
 }
 
 /// Makes sector 0 of a disk with that head and these slots. It is read as them, but that an unused slot
@@ -47,5 +73,33 @@ pub fn mbr_sector(head: &[u8; 446], slots: &[Slot; 4], out: &mut [u8; 512])
     for (i, slot) in slots.iter().enumerate() {
         put(out, 446 + 16 * i, &entry(slot));
     }
-    put(out, 510, &[0x55, 0xAA]);
+    put(out, 510, &SIGNATURE);
 }
+
+/// Makes the sector of an extended boot record. `own` is the slot of its logical partition, with `start`
+/// counted from the record; `next` is where the next record stands, counted from the start of the extended
+/// partition, and how many sectors there are from there to the end of its logical partition. The sector is
+/// read as them, but that an unused slot is read as an empty one.
+pub fn ebr_sector(own: &Slot, next: Option<(u32, u32)>, out: &mut [u8; 512])
+    ensures bytes { out.new ≡ ebr_sector_of own.now next }
+    ensures own { own_of out.new ≡ kept own.now }
+    ensures next { (base : ℕ) → next_of base out.new ≡ option_map (λ link. base + link.0) next }
+    ensures signature { HasSignature out.new }
+{
+    put(out, 0, &[0; 446]);
+    put(out, 446, &entry(own));
+    put(out, 462, &link_entry(next));
+    put(out, 478, &[0; 32]);
+    put(out, 510, &SIGNATURE);
+}
+
+/// The law that a chain which was written for logical partitions is read as them. A call does nothing.
+pub fn chain_reads_back()
+    ensures { ChainReadsBack }
+{}
+
+/// The law that a disk in which a table was written, its sector 0 and its records, is read as that table. A
+/// call does nothing.
+pub fn table_reads_back()
+    ensures { TableReadsBack }
+{}

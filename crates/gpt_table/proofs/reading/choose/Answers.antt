@@ -1,6 +1,6 @@
 use Rattle.std.proofs.Common.{◌≡◌, ◌-◌, arith, subst}
 use Rattle.gpt_table.specs.declared.reading.Found.{Found}
-use Rattle.gpt_table.specs.Reading.{IsFound}
+use Rattle.gpt_table.specs.inside.Reading.{IsFound}
 use Rattle.gpt_table.proofs.Readings.{backup_chosen}
 use Rattle.gpt_table.proofs.reading.choose.Goals as goal
 

@@ -14,7 +14,7 @@ returns-clause-bytes c =
     let w2 = next (replicate 128 0) c.put_guid-2.new.out c.put_long_number.new.out 0 32 (swap_fields c.args.entry.now.kind ++ swap_fields c.args.entry.now.id) (little_bytes 8 c.args.entry.now.first) w1 c.put_long_number.ensures (omega arith) (omega arith) in
     let w3 = next (replicate 128 0) c.put_long_number.new.out c.put_long_number-2.new.out 0 40 (swap_fields c.args.entry.now.kind ++ swap_fields c.args.entry.now.id ++ little_bytes 8 c.args.entry.now.first) (little_bytes 8 c.args.entry.now.last) w2 c.put_long_number-2.ensures (omega arith) (omega arith) in
     let w4 = next (replicate 128 0) c.put_long_number-2.new.out c.put_long_number-3.new.out 0 48 (swap_fields c.args.entry.now.kind ++ swap_fields c.args.entry.now.id ++ little_bytes 8 c.args.entry.now.first ++ little_bytes 8 c.args.entry.now.last) (little_bytes 8 c.args.entry.now.flags) w3 c.put_long_number-3.ensures (omega arith) (omega arith) in
-    let w5 = next (replicate 128 0) c.put_long_number-3.new.out c.put.new.out 0 56 (swap_fields c.args.entry.now.kind ++ swap_fields c.args.entry.now.id ++ little_bytes 8 c.args.entry.now.first ++ little_bytes 8 c.args.entry.now.last ++ little_bytes 8 c.args.entry.now.flags) (c.args.entry.now.name) w4 c.put.ensures (omega arith) (omega arith) in
+    let w5 = next (replicate 128 0) c.put_long_number-3.new.out c.put.new.out 0 56 (swap_fields c.args.entry.now.kind ++ swap_fields c.args.entry.now.id ++ little_bytes 8 c.args.entry.now.first ++ little_bytes 8 c.args.entry.now.last ++ little_bytes 8 c.args.entry.now.flags) (c.args.entry.now.name) w4 c.put.ensures.written (omega arith) (omega arith) in
     filled (replicate 128 0) c.put.new.out _ w5 (omega arith)
 
 pub returns-clause-read_back : goal.returns-clause-read_back

@@ -13,7 +13,7 @@ loop-i-preserved c =
     let bytes : c.slot_bytes.result ≡ slot_bytes (get_or c.args.gpt.now.entries c.loop-i.i None) = c.slot_bytes.ensures.bytes ∙ ap slot_bytes item in
     let bytes-long : length c.slot_bytes.result ≡ 128 = c.slot_bytes.ensures.long in
     record {
-      written = written_more c.args.out.now c.loop-i.out c.put.new.out c.slot_bytes.result c.args.gpt.now.entries c.loop-i.i None c.told-out count lt c.loop-i.invariant.long c.loop-i.invariant.written bytes bytes-long c.put.ensures;
+      written = written_more c.args.out.now c.loop-i.out c.put.new.out c.slot_bytes.result c.args.gpt.now.entries c.loop-i.i None c.told-out count lt c.loop-i.invariant.long c.loop-i.invariant.written bytes bytes-long c.put.ensures.written;
       long = below_more _ _ c.loop-i.invariant.long (ap length (sym bytes) ∙ bytes-long);
       read_back = below_more _ _ c.loop-i.invariant.read_back (ap (λ b. used (entry_of b)) (sym bytes) ∙ c.slot_bytes.ensures.read_back ∙ ap kept item);
     }

@@ -8,7 +8,7 @@ use Rattle.gpt_table.proofs.writing.put_start.Goals as goal
 pub returns : goal.returns
 unfolding start_bytes
 returns c =
-    let w1 = next c.args.out.now c.put.new.out c.put_number.new.out 0 8 (codes "EFI PART") (little_bytes 4 0x10000) c.put.ensures c.put_number.ensures (omega arith) (omega arith) in
+    let w1 = next c.args.out.now c.put.new.out c.put_number.new.out 0 8 (codes "EFI PART") (little_bytes 4 0x10000) c.put.ensures.written c.put_number.ensures (omega arith) (omega arith) in
     let w2 = next c.args.out.now c.put_number.new.out c.put_number-2.new.out 0 12 (codes "EFI PART" ++ little_bytes 4 0x10000) (little_bytes 4 92) w1 c.put_number-2.ensures (omega arith) (omega arith) in
     let w3 = next c.args.out.now c.put_number-2.new.out c.put_number-3.new.out 0 16 (codes "EFI PART" ++ little_bytes 4 0x10000 ++ little_bytes 4 92) (little_bytes 4 c.args.checksum) w2 c.put_number-3.ensures (omega arith) (omega arith) in
     let w4 = next c.args.out.now c.put_number-3.new.out c.put_number-4.new.out 0 20 (codes "EFI PART" ++ little_bytes 4 0x10000 ++ little_bytes 4 92 ++ little_bytes 4 c.args.checksum) (little_bytes 4 0) w3 c.put_number-4.ensures (omega arith) (omega arith) in

@@ -8,13 +8,13 @@ pub loop-i-preserved : goal.loop-i-preserved
 loop-i-preserved c =
     let lt : c.loop-i.i < length c.args.slots.now = omega arith in
     record {
-      written = written_more c.args.head.now c.args.slots.now c.loop-i.i _ c.loop-i.out _ c.entry.result lt c.loop-i.invariant.written c.entry.ensures.bytes c.put-in-loop-i.ensures;
+      written = written_more c.args.head.now c.args.slots.now c.loop-i.i _ c.loop-i.out _ c.entry.result lt c.loop-i.invariant.written c.entry.ensures.bytes c.put-in-loop-i.ensures.appended;
       read_back = below_more _ _ c.loop-i.invariant.read_back (back_here c.args.slots.now c.loop-i.i _ c.entry.result lt c.entry.ensures.bytes c.entry.ensures.read_back);
     }
 
 pub returns-clause-bytes : goal.returns-clause-bytes
 returns-clause-bytes c =
-    written_all c.args.head.now c.args.slots.now c.loop-i.i c.loop-i.out c.put-2.new.out (omega arith) c.put-2.array_long (omega arith) c.loop-i.invariant.written c.put-2.ensures
+    written_all c.args.head.now c.args.slots.now c.loop-i.i c.loop-i.out c.put-2.new.out (omega arith) (omega arith) (omega arith) c.loop-i.invariant.written c.put-2.ensures.appended
 
 pub returns-clause-read_back : goal.returns-clause-read_back
 returns-clause-read_back c =

@@ -2,7 +2,7 @@ use Rattle.std.proofs.Common.{◌≡◌, ap, sym, ◌∙◌}
 use Rattle.std.specs.List.{list_any}
 use Rattle.mbr_table.specs.Slot.{stands_in}
 use Rattle.mbr_table.specs.Mbr.{slots_of}
-use Rattle.mbr_table.proofs.mbr.is_protective.Goals as goal
+use Rattle.mbr_table.proofs.sector.is_protective.Goals as goal
 
 pub returns-then-has_signature : goal.returns-then-has_signature
 returns-then-has_signature c =

@@ -1,6 +1,6 @@
 use Rattle.std.proofs.Common.{arith, below_more, ◌∙◌, sym, length, ◌<◌}
 use Rattle.mbr_table.proofs.Steps.{seen_more, not_bad}
-use Rattle.mbr_table.proofs.mbr.first_bad.Goals as goal
+use Rattle.mbr_table.proofs.sector.first_bad.Goals as goal
 
 pub loop-i-preserved : goal.loop-i-preserved
 loop-i-preserved c =
