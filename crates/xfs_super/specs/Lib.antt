@@ -1,0 +1,4 @@
+pub mod Geometry
+pub mod Super
+pub mod Superblock
+pub mod inside
