@@ -1,4 +1,6 @@
 pub mod Geometry
 pub mod Super
 pub mod Superblock
+pub mod Headers
+pub mod Laws
 pub mod inside
