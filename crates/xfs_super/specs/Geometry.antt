@@ -1,6 +1,7 @@
 -- Into which groups the blocks of a volume fall, and where groups and blocks lie.
 use Rattle.std.specs.Prelude.{◌≡◌, ℕ, ◌+◌, ◌-◌, ◌*◌, ◌/◌, ◌%◌, ◌^◌, ◌<◌, ◌≤◌, min, Bool, true, nat_lt, nat_le, ◌==◌, ◌&&◌, ◌||◌, List}
 use Rattle.std.specs.Int.{div_ceil}
+use Rattle.disk_base.specs.Image.{bytes_at}
 
 -- what a superblock says of its volume; growth changes `dblocks` and `agcount` alone
 pub record Geometry : Type 0 where
@@ -38,6 +39,10 @@ sector_of g group block = 8 * (group * g.agblocks + block)
 -- the AGF 1, the AGI 2 and the AGFL 3
 abbrev pub header_sector : Geometry → ℕ → ℕ → ℕ
 header_sector g group k = sector_of g group 0 + k * (g.sectsize / 512)
+
+-- the bytes of header `k` of a group, in a volume given by its blocks; nothing in it changes when the volume grows
+abbrev pub header_in : Geometry → (ℕ → List ℕ) → ℕ → ℕ → List ℕ
+header_in g volume group k = bytes_at (volume (group * g.agblocks + k * g.sectsize / 4096)) (k * g.sectsize % 4096) g.sectsize
 
 -- k is the least power of 2 that is at least n
 abbrev pub is_least_log : ℕ → ℕ → Bool
