@@ -1,7 +1,6 @@
 -- What the tests on the headers of a group say.
-use Rattle.std.proofs.Common.{◌≡◌, ℕ, ◌<◌, ◌≤◌, ◌⊎◌, inl, inr, Bool, true, false, not, eqb, ltb, leb, ◌&&◌, ◌||◌, List, sym, ap, ◌∙◌, refl, arith}
+use Rattle.std.proofs.Common.{◌≡◌, ℕ, ◌<◌, ◌≤◌, inl, inr, true, not, eqb, ltb, leb, ◌&&◌, ◌||◌, List, arith}
 use Rattle.std.specs.Str.{bytes_eq}
-use Rattle.disk_base.specs.Fields.{big_at}
 use Rattle.std.proofs.lemmas.Bool.{and_parts, or_cases, leb-true, ltb-true, eqb-true, both_ways, not-true}
 use Rattle.std.proofs.lemmas.Slice.Eq.{bytes_eq-Decides}
 use Rattle.xfs_super.specs.Geometry.{Geometry, group_len}
@@ -15,11 +14,11 @@ height_facts level h = let p = and_parts (leb 1 level) (leb level 8) h in (leb-t
 list_facts : (room : ℕ) (agf : Agf) → has_free_list room agf ≡ true → (agf.flcount ≤ room) × (1 ≤ agf.flcount → agf.flfirst < room)
 list_facts room agf h =
     elim (or_cases (eqb agf.flcount 0) (leb agf.flcount room && ltb agf.flfirst room && ltb agf.fllast room) h) [
-      inl none ↦ let empty : agf.flcount ≡ 0 = eqb-true agf.flcount 0 none in (omega arith, λ some. absurd (omega arith))
-    | inr used ↦
-      let last = and_parts (leb agf.flcount room && ltb agf.flfirst room) (ltb agf.fllast room) used in
-      let first = and_parts (leb agf.flcount room) (ltb agf.flfirst room) last.0 in
-      (leb-true agf.flcount room first.0, λ _. ltb-true agf.flfirst room first.1)
+      | inl none ↦ let empty : agf.flcount ≡ 0 = eqb-true agf.flcount 0 none in (omega arith, λ some. absurd (omega arith))
+      | inr used ↦
+          let last = and_parts (leb agf.flcount room && ltb agf.flfirst room) (ltb agf.fllast room) used in
+          let first = and_parts (leb agf.flcount room) (ltb agf.flfirst room) last.0 in
+          (leb-true agf.flcount room first.0, λ _. ltb-true agf.flfirst room first.1)
     ]
 
 pub agf_facts : (g : Geometry) (group : ℕ) (agf : Agf) → fits_agf g group agf ≡ true → IsSoundAgf g group agf
@@ -56,10 +55,10 @@ free_facts : (g : Geometry) (len : ℕ) (agi : Agi) → (not g.finobt || (ltb ag
     → (agi.free_root < len) × ((1 ≤ agi.free_level) × (agi.free_level ≤ 8))
 free_facts g len agi h has =
     elim (or_cases (not g.finobt) (ltb agi.free_root len && is_height agi.free_level) h) [
-      inl lacks ↦ absurd (both_ways g.finobt (not-true g.finobt lacks) has)
-    | inr fits ↦
-      let p = and_parts (ltb agi.free_root len) (is_height agi.free_level) fits in
-      (ltb-true agi.free_root len p.0, height_facts agi.free_level p.1)
+      | inl lacks ↦ absurd (both_ways g.finobt (not-true g.finobt lacks) has)
+      | inr fits ↦
+          let p = and_parts (ltb agi.free_root len) (is_height agi.free_level) fits in
+          (ltb-true agi.free_root len p.0, height_facts agi.free_level p.1)
     ]
 
 pub agi_facts : (g : Geometry) (group : ℕ) (agi : Agi) → fits_agi g group agi ≡ true → IsSoundAgi g group agi

@@ -1,7 +1,7 @@
 -- What the tests on sizes, groups and the log say.
-use Rattle.std.proofs.Common.{◌≡◌, ℕ, ◌+◌, ◌-◌, ◌*◌, ◌/◌, ◌%◌, ◌^◌, ◌<◌, ◌≤◌, ◌⊎◌, inl, inr, Bool, true, false, eqb, ltb, leb, ◌&&◌, ◌||◌, min, List, sym, ap, ◌∙◌, refl, subst, arith}
+use Rattle.std.proofs.Common.{◌≡◌, ℕ, ◌+◌, ◌-◌, ◌*◌, ◌/◌, ◌%◌, ◌^◌, ◌<◌, ◌≤◌, ◌⊎◌, inl, inr, true, false, eqb, ltb, leb, ◌&&◌, ◌||◌, min, sym, ap, ◌∙◌, subst, arith}
 use Rattle.std.specs.Int.{div_ceil}
-use Rattle.std.proofs.lemmas.Bool.{and_parts, or_cases, leb-true, lt-leb, ltb-true, le-ltb, eqb-true, cases_lt, and_left, and_right}
+use Rattle.std.proofs.lemmas.Bool.{and_parts, or_cases, leb-true, ltb-true, le-ltb, eqb-true, cases_lt, and_right}
 use Rattle.std.proofs.lemmas.Grind.{div_ceil_times}
 use Rattle.std.proofs.Math.Pow.{pow_mono}
 use Rattle.xfs_super.specs.Geometry.{Geometry, group_len, is_least_log, blocks_in_group, are_groups, is_sector_size, is_log_place, AreGroups, AreSizes, IsLogPlace}
@@ -20,8 +20,8 @@ half_or_none k n (inr h) = inr (ltb-true (2 ^ (k - 1)) n h)
 log_below : (k n : ℕ) → n ≤ 2 ^ 28 → 2 ^ (k - 1) < n → k ≤ 28
 log_below k n most half =
     elim (cases_lt 28 k) [
-      inl above ↦ let more : 2 ^ 28 ≤ 2 ^ (k - 1) = pow_mono {i = 28} {j = k - 1} (omega arith) in absurd (omega arith)
-    | inr fits ↦ fits
+      | inl above ↦ let more : 2 ^ 28 ≤ 2 ^ (k - 1) = pow_mono {i = 28} {j = k - 1} (omega arith) in absurd (omega arith)
+      | inr fits ↦ fits
     ]
 
 -- a logarithm above 28 is that of a greater number
@@ -61,8 +61,8 @@ groups_from_test d a c k passes =
 sector_sizes : (s l : ℕ) → ((eqb s 512 && eqb l 9) || (eqb s 4096 && eqb l 12)) ≡ true → (s ≡ 512) ⊎ (s ≡ 4096)
 sector_sizes s l h =
     elim (or_cases (eqb s 512 && eqb l 9) (eqb s 4096 && eqb l 12) h) [
-      inl small ↦ inl (eqb-true s 512 (and_parts (eqb s 512) (eqb l 9) small).0)
-    | inr large ↦ inr (eqb-true s 4096 (and_parts (eqb s 4096) (eqb l 12) large).0)
+      | inl small ↦ inl (eqb-true s 512 (and_parts (eqb s 512) (eqb l 9) small).0)
+      | inr large ↦ inr (eqb-true s 4096 (and_parts (eqb s 4096) (eqb l 12) large).0)
     ]
 
 sector_test : (s : ℕ) → (s ≡ 512) ⊎ (s ≡ 4096) → (is_sector_size s ≡ true) × (512 ≤ s) × (s ≤ 4096)
@@ -83,12 +83,12 @@ one_inode_size i l n p size log count power h =
 inode_sizes : (s : Superblock) → has_inode_sizes s ≡ true → InodeSizes s.inodesize s.inopblog
 inode_sizes s h =
     elim (or_cases _ (eqb s.inodesize 2048 && eqb s.inodelog 11 && eqb s.inopblock 2 && eqb s.inopblog 1) h) [
-      inr large ↦ inr (inr (one_inode_size s.inodesize s.inodelog s.inopblock s.inopblog 2048 11 2 1 large))
-    | inl smaller ↦
-      elim (or_cases _ (eqb s.inodesize 1024 && eqb s.inodelog 10 && eqb s.inopblock 4 && eqb s.inopblog 2) smaller) [
-        inr middle ↦ inr (inl (one_inode_size s.inodesize s.inodelog s.inopblock s.inopblog 1024 10 4 2 middle))
-      | inl small ↦ inl (one_inode_size s.inodesize s.inodelog s.inopblock s.inopblog 512 9 8 3 small)
-      ]
+      | inr large ↦ inr (inr (one_inode_size s.inodesize s.inodelog s.inopblock s.inopblog 2048 11 2 1 large))
+      | inl smaller ↦
+          elim (or_cases _ (eqb s.inodesize 1024 && eqb s.inodelog 10 && eqb s.inopblock 4 && eqb s.inopblog 2) smaller) [
+            | inr middle ↦ inr (inl (one_inode_size s.inodesize s.inodelog s.inopblock s.inopblog 1024 10 4 2 middle))
+            | inl small ↦ inl (one_inode_size s.inodesize s.inodelog s.inopblock s.inopblog 512 9 8 3 small)
+          ]
     ]
 
 inode_facts : (i p : ℕ) → InodeSizes i p → (i * 2 ^ p ≡ 4096) × (512 ≤ i) × (i ≤ 2048) × (p ≤ 3)

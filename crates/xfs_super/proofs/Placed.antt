@@ -1,5 +1,5 @@
 -- Where the headers of a group stand.
-use Rattle.std.proofs.Common.{◌≡◌, ℕ, ◌+◌, ◌-◌, ◌*◌, ◌/◌, ◌%◌, ◌<◌, ◌≤◌, ◌⊎◌, inl, inr, Bool, true, eqb, min, List, take, drop, refl, sym, ap, ◌∙◌, arith, subst}
+use Rattle.std.proofs.Common.{◌≡◌, ℕ, ◌+◌, ◌-◌, ◌*◌, ◌/◌, ◌%◌, ◌≤◌, inl, inr, true, eqb, List, take, drop, sym, ap, ◌∙◌, arith, subst}
 use Rattle.std.proofs.lemmas.Bool.{or_cases, eqb-true}
 use Rattle.std.proofs.lemmas.List.{drop-take, take-take, drop-drop}
 use Rattle.disk_base.specs.Image.{bytes_at}
@@ -31,8 +31,8 @@ header_stands image g group k size few =
     let s : ℕ = g.sectsize in
     let b : ℕ = group * g.agblocks in
     let h : StandsAt b k s =
-        elim (or_cases (eqb s 512) (eqb s 4096) size) [
-          inl small ↦ subst (StandsAt b k) (sym (eqb-true s 512 small)) (small_stands b k few)
-        | inr large ↦ subst (StandsAt b k) (sym (eqb-true s 4096 large)) (large_stands b k)
-        ]
+    elim (or_cases (eqb s 512) (eqb s 4096) size) [
+      | inl small ↦ subst (StandsAt b k) (sym (eqb-true s 512 small)) (small_stands b k few)
+      | inr large ↦ subst (StandsAt b k) (sym (eqb-true s 4096 large)) (large_stands b k)
+    ]
     in ap (λ at. bytes_at image at s) h.1 ∙ sym (range_of_range image (4096 * (b + k * s / 4096)) 4096 (k * s % 4096) s h.0)

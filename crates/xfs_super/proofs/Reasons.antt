@@ -1,8 +1,7 @@
 -- What is sound, and the reasons that speak against what isn't.
-use Rattle.std.proofs.Common.{◌≡◌, ℕ, Bool, true, false, eqb, ◌&&◌, List, refl, take}
+use Rattle.std.proofs.Common.{◌≡◌, ℕ, Bool, true, ◌&&◌, List, refl}
 use Rattle.std.proofs.lemmas.Bool.{both_ways, true_from_ne_false, false_from_ne_true, and_parts}
-use Rattle.xfs_super.specs.Geometry.{is_sector_size}
-use Rattle.xfs_super.specs.Superblock.{superblock_in, SpeaksAgainst, IsSuperblock, IsUnserved, IsServed, has_magic, is_laid_out, has_sizes, is_inside, has_places, has_features, has_flag, has_superblock_checksum, has_checksum}
+use Rattle.xfs_super.specs.Superblock.{superblock_in, SpeaksAgainst, IsSuperblock, IsUnserved, IsServed, is_laid_out, has_sizes, is_inside, has_places}
 use Rattle.xfs_super.specs.Headers.{SpeaksAgainstHeader, IsHeader}
 use Rattle.xfs_super.specs.declared.superblock.Superblock.{Superblock}
 use Rattle.xfs_super.specs.declared.reason.Reason.{Reason}

@@ -16,19 +16,39 @@ use Rattle.xfs_super.specs.declared.reason.Reason.TheVariants.{Checksum, Header}
 
 unfoldable pub agf_in : List ℕ → Agf
 agf_in bytes = record {
-  seqno = big_at 4 bytes 8; length = big_at 4 bytes 12; bno_root = big_at 4 bytes 16; cnt_root = big_at 4 bytes 20;
-  bno_level = big_at 4 bytes 28; cnt_level = big_at 4 bytes 32; flfirst = big_at 4 bytes 40; fllast = big_at 4 bytes 44;
-  flcount = big_at 4 bytes 48; freeblks = big_at 4 bytes 52; longest = big_at 4 bytes 56; btreeblks = big_at 4 bytes 60;
-  uuid = bytes_at bytes 64 16; lsn = big_at 8 bytes 208
+  seqno = big_at 4 bytes 8;
+  length = big_at 4 bytes 12;
+  bno_root = big_at 4 bytes 16;
+  cnt_root = big_at 4 bytes 20;
+  bno_level = big_at 4 bytes 28;
+  cnt_level = big_at 4 bytes 32;
+  flfirst = big_at 4 bytes 40;
+  fllast = big_at 4 bytes 44;
+  flcount = big_at 4 bytes 48;
+  freeblks = big_at 4 bytes 52;
+  longest = big_at 4 bytes 56;
+  btreeblks = big_at 4 bytes 60;
+  uuid = bytes_at bytes 64 16;
+  lsn = big_at 8 bytes 208;
 }
 
 unfoldable pub agi_in : List ℕ → Agi
 agi_in bytes = record {
-  seqno = big_at 4 bytes 8; length = big_at 4 bytes 12; count = big_at 4 bytes 16; root = big_at 4 bytes 20;
-  level = big_at 4 bytes 24; freecount = big_at 4 bytes 28; newino = big_at 4 bytes 32; dirino = big_at 4 bytes 36;
-  unlinked = map (λ i. big_at 4 bytes (40 + 4 * i)) (range_with_len 0 64); uuid = bytes_at bytes 296 16;
-  lsn = big_at 8 bytes 320; free_root = big_at 4 bytes 328; free_level = big_at 4 bytes 332;
-  iblocks = big_at 4 bytes 336; fblocks = big_at 4 bytes 340
+  seqno = big_at 4 bytes 8;
+  length = big_at 4 bytes 12;
+  count = big_at 4 bytes 16;
+  root = big_at 4 bytes 20;
+  level = big_at 4 bytes 24;
+  freecount = big_at 4 bytes 28;
+  newino = big_at 4 bytes 32;
+  dirino = big_at 4 bytes 36;
+  unlinked = map (λ i. big_at 4 bytes (40 + 4 * i)) (range_with_len 0 64);
+  uuid = bytes_at bytes 296 16;
+  lsn = big_at 8 bytes 320;
+  free_root = big_at 4 bytes 328;
+  free_level = big_at 4 bytes 332;
+  iblocks = big_at 4 bytes 336;
+  fblocks = big_at 4 bytes 340;
 }
 
 -- how many entries a list of free blocks has room for, which is kept in a sector of so many bytes

@@ -1,6 +1,6 @@
 -- The superblock of a volume, and which reasons speak against it. It is the first sector of the file system; its
 -- fields stand highest byte first, its checksum lowest byte first.
-use Rattle.std.specs.Prelude.{◌≡◌, ℕ, ◌+◌, ◌*◌, ◌/◌, ◌%◌, ◌^◌, ◌<◌, Bool, true, false, not, if◌then◌else◌, nat_lt, nat_le, ◌==◌, ◌&&◌, ◌||◌, List, take, slice_index}
+use Rattle.std.specs.Prelude.{◌≡◌, ℕ, ◌*◌, ◌%◌, Bool, true, false, if◌then◌else◌, nat_lt, nat_le, ◌==◌, ◌&&◌, ◌||◌, List, take, slice_index}
 use Rattle.std.specs.Int.{bit_at}
 use Rattle.disk_base.specs.Image.{bytes_at}
 use Rattle.disk_base.specs.Fields.{big_at, little_at}
@@ -13,14 +13,32 @@ use Rattle.xfs_super.specs.declared.reason.Reason.TheVariants.{Geometry as BadGe
 -- the fields, as they stand in the bytes
 unfoldable pub superblock_in : List ℕ → Superblock
 superblock_in bytes = record {
-  magic = big_at 4 bytes 0; blocksize = big_at 4 bytes 4; dblocks = big_at 8 bytes 8; rblocks = big_at 8 bytes 16;
-  uuid = bytes_at bytes 32 16; logstart = big_at 8 bytes 48; rootino = big_at 8 bytes 56; agblocks = big_at 4 bytes 84;
-  agcount = big_at 4 bytes 88; logblocks = big_at 4 bytes 96; versionnum = big_at 2 bytes 100;
-  sectsize = big_at 2 bytes 102; inodesize = big_at 2 bytes 104; inopblock = big_at 2 bytes 106;
-  label = bytes_at bytes 108 12; blocklog = slice_index bytes 120; sectlog = slice_index bytes 121; inodelog = slice_index bytes 122;
-  inopblog = slice_index bytes 123; agblklog = slice_index bytes 124; inprogress = slice_index bytes 126; dirblklog = slice_index bytes 192;
-  ro_compat = big_at 4 bytes 212; incompat = big_at 4 bytes 216; log_incompat = big_at 4 bytes 220;
-  meta_uuid = bytes_at bytes 248 16
+  magic = big_at 4 bytes 0;
+  blocksize = big_at 4 bytes 4;
+  dblocks = big_at 8 bytes 8;
+  rblocks = big_at 8 bytes 16;
+  uuid = bytes_at bytes 32 16;
+  logstart = big_at 8 bytes 48;
+  rootino = big_at 8 bytes 56;
+  agblocks = big_at 4 bytes 84;
+  agcount = big_at 4 bytes 88;
+  logblocks = big_at 4 bytes 96;
+  versionnum = big_at 2 bytes 100;
+  sectsize = big_at 2 bytes 102;
+  inodesize = big_at 2 bytes 104;
+  inopblock = big_at 2 bytes 106;
+  label = bytes_at bytes 108 12;
+  blocklog = slice_index bytes 120;
+  sectlog = slice_index bytes 121;
+  inodelog = slice_index bytes 122;
+  inopblog = slice_index bytes 123;
+  agblklog = slice_index bytes 124;
+  inprogress = slice_index bytes 126;
+  dirblklog = slice_index bytes 192;
+  ro_compat = big_at 4 bytes 212;
+  incompat = big_at 4 bytes 216;
+  log_incompat = big_at 4 bytes 220;
+  meta_uuid = bytes_at bytes 248 16;
 }
 
 -- flag 2 ^ k of a field of flags
@@ -30,11 +48,24 @@ has_flag flags k = bit_at flags k == 1
 -- what it says of its volume
 abbrev pub geometry_from : Superblock → Geometry
 geometry_from s = record {
-  dblocks = s.dblocks; uuid = s.uuid; meta = if has_flag s.incompat 2 then s.meta_uuid else s.uuid; label = s.label;
-  logstart = s.logstart; logblocks = s.logblocks; rootino = s.rootino; agblocks = s.agblocks; agcount = s.agcount;
-  agblklog = s.agblklog; sectsize = s.sectsize; inodesize = s.inodesize; inopblog = s.inopblog;
-  finobt = has_flag s.ro_compat 0; sparse = has_flag s.incompat 1; bigtime = has_flag s.incompat 3;
-  inobtcount = has_flag s.ro_compat 3; nrext64 = has_flag s.incompat 5
+  dblocks = s.dblocks;
+  uuid = s.uuid;
+  meta = if has_flag s.incompat 2 then s.meta_uuid else s.uuid;
+  label = s.label;
+  logstart = s.logstart;
+  logblocks = s.logblocks;
+  rootino = s.rootino;
+  agblocks = s.agblocks;
+  agcount = s.agcount;
+  agblklog = s.agblklog;
+  sectsize = s.sectsize;
+  inodesize = s.inodesize;
+  inopblog = s.inopblog;
+  finobt = has_flag s.ro_compat 0;
+  sparse = has_flag s.incompat 1;
+  bigtime = has_flag s.incompat 3;
+  inobtcount = has_flag s.ro_compat 3;
+  nrext64 = has_flag s.incompat 5;
 }
 
 abbrev pub geometry_in : List ℕ → Geometry
