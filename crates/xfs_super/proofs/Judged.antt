@@ -4,7 +4,7 @@ use Rattle.std.specs.Str.{bytes_eq}
 use Rattle.std.proofs.lemmas.Bool.{and_parts, or_cases, leb-true, ltb-true, eqb-true, both_ways, not-true}
 use Rattle.std.proofs.lemmas.Slice.Eq.{bytes_eq-Decides}
 use Rattle.xfs_super.specs.Geometry.{Geometry, group_len}
-use Rattle.xfs_super.specs.Headers.{agf_in, agi_in, capacity, is_height, has_free_list, fits_agf, is_agf, fits_agi, is_agi, IsSoundAgf, IsSoundAgi}
+use Rattle.xfs_super.specs.Headers.{agf_in, agi_in, list_capacity, is_height, has_free_list, fits_agf, is_agf, fits_agi, is_agi, IsSoundAgf, IsSoundAgi}
 use Rattle.xfs_super.specs.declared.agf.Agf.{Agf}
 use Rattle.xfs_super.specs.declared.agi.Agi.{Agi}
 
@@ -24,14 +24,14 @@ list_facts room agf h =
 pub agf_facts : (g : Geometry) (group : ℕ) (agf : Agf) → fits_agf g group agf ≡ true → IsSoundAgf g group agf
 agf_facts g group agf h =
     let len : ℕ = group_len g group in
-    let p7 = and_parts _ (has_free_list (capacity g.sectsize) agf) h in
+    let p7 = and_parts _ (has_free_list (list_capacity g.sectsize) agf) h in
     let p6 = and_parts _ (is_height agf.cnt_level) p7.0 in
     let p5 = and_parts _ (is_height agf.bno_level) p6.0 in
     let p4 = and_parts _ (ltb agf.cnt_root len) p5.0 in
     let p3 = and_parts _ (ltb agf.bno_root len) p4.0 in
     let p2 = and_parts _ (bytes_eq agf.uuid g.meta) p3.0 in
     let p1 = and_parts (eqb agf.seqno group) (eqb agf.length len) p2.0 in
-    let list = list_facts (capacity g.sectsize) agf p7.1 in
+    let list = list_facts (list_capacity g.sectsize) agf p7.1 in
     let bno = height_facts agf.bno_level p5.1 in
     let cnt = height_facts agf.cnt_level p6.1 in
     record {

@@ -1,7 +1,7 @@
 -- What the tests on sizes, groups and the log say.
 use Rattle.std.proofs.Common.{◌≡◌, ℕ, ◌+◌, ◌-◌, ◌*◌, ◌/◌, ◌%◌, ◌^◌, ◌<◌, ◌≤◌, ◌⊎◌, inl, inr, true, false, eqb, ltb, leb, ◌&&◌, ◌||◌, min, sym, ap, ◌∙◌, subst, arith}
 use Rattle.std.specs.Int.{div_ceil}
-use Rattle.std.proofs.lemmas.Bool.{and_parts, or_cases, leb-true, ltb-true, le-ltb, eqb-true, cases_lt, and_right}
+use Rattle.std.proofs.lemmas.Bool.{and_parts, and_from, or_right, or_cases, lt-ltb, le-leb, eq-eqb, leb-true, ltb-true, le-ltb, eqb-true, cases_lt, and_right}
 use Rattle.std.proofs.lemmas.Grind.{div_ceil_times}
 use Rattle.std.proofs.Math.Pow.{pow_mono}
 use Rattle.xfs_super.specs.Geometry.{Geometry, group_len, is_least_log, blocks_in_group, are_groups, is_sector_size, is_log_place, AreGroups, AreSizes, IsLogPlace}
@@ -113,7 +113,7 @@ sizes_from_test s h =
       inodes_most = facts.3;
     }
 
-log_from_test : (g : Geometry) → is_log_place g ≡ true → IsLogPlace g.logstart g.logblocks g.dblocks g.agblocks g.agcount g.agblklog
+pub log_from_test : (g : Geometry) → is_log_place g ≡ true → IsLogPlace g.logstart g.logblocks g.dblocks g.agblocks g.agcount g.agblklog
 log_from_test g h =
     let group : ℕ = g.logstart / 2 ^ g.agblklog in
     let last = and_parts _ (leb (g.logstart % 2 ^ g.agblklog + g.logblocks) (group_len g group)) h in
@@ -132,3 +132,22 @@ laid_from_tests s sized placed =
       sizes = sizes_from_test s sized;
       log = log_from_test (geometry_from s) places.1;
     }
+
+-- and back
+pub test_from_groups : (d a c k : ℕ) → AreGroups d a c k → are_groups d a c k ≡ true
+test_from_groups d a c k g =
+    let half : ltb (2 ^ (k - 1)) a ≡ true = lt-ltb (2 ^ (k - 1)) a g.tight in
+    let power : is_least_log k a ≡ true = and_from (leb a (2 ^ k)) (eqb k 0 || ltb (2 ^ (k - 1)) a) (le-leb a (2 ^ k) g.named) (or_right (eqb k 0) (ltb (2 ^ (k - 1)) a) half) in
+    let sizes : (leb 64 a && leb a (2 ^ 28)) ≡ true = and_from (leb 64 a) (leb a (2 ^ 28)) (le-leb 64 a g.least) (le-leb a (2 ^ 28) g.most) in
+    let log : (leb 64 a && leb a (2 ^ 28) && is_least_log k a) ≡ true = and_from (leb 64 a && leb a (2 ^ 28)) (is_least_log k a) sizes power in
+    let count = and_from (leb 64 a && leb a (2 ^ 28) && is_least_log k a) (eqb c (div_ceil d a)) log (eq-eqb c (div_ceil d a) g.count) in
+    let some = and_from (leb 64 a && leb a (2 ^ 28) && is_least_log k a && eqb c (div_ceil d a)) (ltb 0 c) count (lt-ltb 0 c g.some) in
+    let enough : 64 ≤ blocks_in_group d a (c - 1) = (let last : (c - 1) * a + 64 ≤ d = g.last in let least : 64 ≤ a = g.least in omega arith) in
+    and_from (leb 64 a && leb a (2 ^ 28) && is_least_log k a && eqb c (div_ceil d a) && ltb 0 c) (leb 64 (blocks_in_group d a (c - 1))) some (le-leb 64 (blocks_in_group d a (c - 1)) enough)
+
+pub test_from_log : (g : Geometry) → IsLogPlace g.logstart g.logblocks g.dblocks g.agblocks g.agcount g.agblklog → is_log_place g ≡ true
+test_from_log g p =
+    let group : ℕ = g.logstart / 2 ^ g.agblklog in
+    let first : (ltb 0 g.logblocks && ltb group g.agcount) ≡ true = and_from (ltb 0 g.logblocks) (ltb group g.agcount) (lt-ltb 0 g.logblocks p.some) (lt-ltb group g.agcount p.group) in
+    and_from (ltb 0 g.logblocks && ltb group g.agcount) (leb (g.logstart % 2 ^ g.agblklog + g.logblocks) (group_len g group)) first
+    (le-leb (g.logstart % 2 ^ g.agblklog + g.logblocks) (group_len g group) p.inside)

@@ -3,7 +3,7 @@ use Rattle.std.proofs.Common.{◌≡◌, ℕ, ◌+◌, ◌-◌, ◌*◌, ◌/◌
 use Rattle.std.proofs.lemmas.Bool.{or_cases, eqb-true}
 use Rattle.std.proofs.lemmas.List.{drop-take, take-take, drop-drop}
 use Rattle.disk_base.specs.Image.{bytes_at}
-use Rattle.xfs_super.specs.Geometry.{Geometry, is_sector_size, header_sector, header_in}
+use Rattle.xfs_super.specs.Geometry.{Geometry, is_sector_size, header_sector, header_seen}
 use Rattle.xfs_super.specs.Agreement.{block}
 
 -- a range of a range
@@ -26,7 +26,7 @@ large_stands : (b k : ℕ) → StandsAt b k 4096
 large_stands b k = (omega arith, omega arith)
 
 pub header_stands : (image : List ℕ) (g : Geometry) (group k : ℕ) → is_sector_size g.sectsize ≡ true → k ≤ 3
-    → bytes_at image (512 * header_sector g group k) g.sectsize ≡ header_in g (block image) group k
+    → bytes_at image (512 * header_sector g group k) g.sectsize ≡ header_seen g (block image) group k
 header_stands image g group k size few =
     let s : ℕ = g.sectsize in
     let b : ℕ = group * g.agblocks in

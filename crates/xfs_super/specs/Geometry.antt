@@ -41,8 +41,8 @@ abbrev pub header_sector : Geometry → ℕ → ℕ → ℕ
 header_sector g group k = sector_of g group 0 + k * (g.sectsize / 512)
 
 -- the bytes of header `k` of a group, in a volume given by its blocks; nothing in it changes when the volume grows
-abbrev pub header_in : Geometry → (ℕ → List ℕ) → ℕ → ℕ → List ℕ
-header_in g volume group k = bytes_at (volume (group * g.agblocks + k * g.sectsize / 4096)) (k * g.sectsize % 4096) g.sectsize
+abbrev pub header_seen : Geometry → (ℕ → List ℕ) → ℕ → ℕ → List ℕ
+header_seen g volume group k = bytes_at (volume (group * g.agblocks + k * g.sectsize / 4096)) (k * g.sectsize % 4096) g.sectsize
 
 -- k is the least power of 2 that is at least n
 abbrev pub is_least_log : ℕ → ℕ → Bool

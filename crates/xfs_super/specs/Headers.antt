@@ -52,8 +52,8 @@ agi_in bytes = record {
 }
 
 -- how many entries a list of free blocks has room for, which is kept in a sector of so many bytes
-abbrev pub capacity : ℕ → ℕ
-capacity sectsize = (sectsize - 36) / 4
+abbrev pub list_capacity : ℕ → ℕ
+list_capacity sectsize = (sectsize - 36) / 4
 
 -- entry i of the list of free blocks
 abbrev pub agfl_entry : List ℕ → ℕ → ℕ
@@ -62,7 +62,7 @@ agfl_entry bytes i = big_at 4 bytes (36 + 4 * i)
 -- its entries in use: flcount ones, from flfirst on, going round
 unfoldable pub used_entries : Agf → List ℕ → List ℕ
 used_entries agf bytes =
-    map (λ i. agfl_entry bytes ((agf.flfirst + i) % capacity (length bytes))) (range_with_len 0 agf.flcount)
+    map (λ i. agfl_entry bytes ((agf.flfirst + i) % list_capacity (length bytes))) (range_with_len 0 agf.flcount)
 
 -- ---- the tests that the headers have to pass
 
@@ -80,7 +80,7 @@ abbrev pub fits_agf : Geometry → ℕ → Agf → Bool
 fits_agf g group agf =
     agf.seqno == group && agf.length == group_len g group && bytes_eq agf.uuid g.meta
     && nat_lt agf.bno_root (group_len g group) && nat_lt agf.cnt_root (group_len g group)
-    && is_height agf.bno_level && is_height agf.cnt_level && has_free_list (capacity g.sectsize) agf
+    && is_height agf.bno_level && is_height agf.cnt_level && has_free_list (list_capacity g.sectsize) agf
 
 abbrev pub is_agf : Geometry → ℕ → List ℕ → Bool
 is_agf g group bytes = big_at 4 bytes 0 == 0x58414746 && big_at 4 bytes 4 == 1 && fits_agf g group (agf_in bytes)
@@ -113,7 +113,7 @@ SpeaksAgainstHeader sector at passes bytes (Header named) = (named ≡ sector) �
 SpeaksAgainstHeader sector at passes bytes _ = ⊥
 
 -- none does
-pub record IsHeader (at : ℕ) (passes : Bool) (bytes : List ℕ) : Type 0 where
+pub record PassesAsHeader (at : ℕ) (passes : Bool) (bytes : List ℕ) : Type 0 where
   pub checksum : has_checksum bytes at ≡ true
   pub test : passes ≡ true
 
@@ -121,19 +121,19 @@ abbrev pub SpeaksAgainstAgf : Geometry → ℕ → List ℕ → Reason → Type 
 SpeaksAgainstAgf g group bytes = SpeaksAgainstHeader (header_sector g group 1) 216 (is_agf g group bytes) bytes
 
 abbrev pub IsAgf : Geometry → ℕ → List ℕ → Type 0
-IsAgf g group bytes = IsHeader 216 (is_agf g group bytes) bytes
+IsAgf g group bytes = PassesAsHeader 216 (is_agf g group bytes) bytes
 
 abbrev pub SpeaksAgainstAgi : Geometry → ℕ → List ℕ → Reason → Type 0
 SpeaksAgainstAgi g group bytes = SpeaksAgainstHeader (header_sector g group 2) 312 (is_agi g group bytes) bytes
 
 abbrev pub IsAgi : Geometry → ℕ → List ℕ → Type 0
-IsAgi g group bytes = IsHeader 312 (is_agi g group bytes) bytes
+IsAgi g group bytes = PassesAsHeader 312 (is_agi g group bytes) bytes
 
 abbrev pub SpeaksAgainstAgfl : Geometry → ℕ → List ℕ → Reason → Type 0
 SpeaksAgainstAgfl g group bytes = SpeaksAgainstHeader (header_sector g group 3) 32 (is_agfl g group bytes) bytes
 
 abbrev pub IsAgfl : Geometry → ℕ → List ℕ → Type 0
-IsAgfl g group bytes = IsHeader 32 (is_agfl g group bytes) bytes
+IsAgfl g group bytes = PassesAsHeader 32 (is_agfl g group bytes) bytes
 
 -- an entry of the list that is in use lies outside the group
 abbrev pub SpeaksAgainstUsed : Geometry → ℕ → Agf → List ℕ → Reason → Type 0
@@ -152,8 +152,8 @@ pub record IsSoundAgf (g : Geometry) (group : ℕ) (agf : Agf) : Type 0 where
   pub bno_few : agf.bno_level ≤ 8
   pub cnt_some : 1 ≤ agf.cnt_level
   pub cnt_few : agf.cnt_level ≤ 8
-  pub listed : agf.flcount ≤ capacity g.sectsize
-  pub first : 1 ≤ agf.flcount → agf.flfirst < capacity g.sectsize
+  pub listed : agf.flcount ≤ list_capacity g.sectsize
+  pub first : 1 ≤ agf.flcount → agf.flfirst < list_capacity g.sectsize
 
 pub record IsSoundAgi (g : Geometry) (group : ℕ) (agi : Agi) : Type 0 where
   pub seqno : agi.seqno ≡ group

@@ -96,8 +96,8 @@ abbrev pub has_sizes : Superblock → Bool
 has_sizes s = s.blocksize == 4096 && s.blocklog == 12 && has_sector_size s && has_inode_sizes s && s.dirblklog == 0
 
 -- the volume has the blocks
-abbrev pub is_inside : ℕ → Superblock → Bool
-is_inside sectors s = nat_le 8 sectors && nat_le (8 * s.dblocks) sectors
+abbrev pub fits_volume : ℕ → Superblock → Bool
+fits_volume sectors s = nat_le 8 sectors && nat_le (8 * s.dblocks) sectors
 
 -- its groups and its log lie where they may
 abbrev pub has_places : Superblock → Bool
@@ -105,7 +105,7 @@ has_places s = are_groups s.dblocks s.agblocks s.agcount s.agblklog && is_log_pl
 
 -- the sizes agree with one another and with a volume of that many sectors
 abbrev pub is_laid_out : ℕ → Superblock → Bool
-is_laid_out sectors s = has_sizes s && is_inside sectors s && has_places s
+is_laid_out sectors s = has_sizes s && fits_volume sectors s && has_places s
 
 -- version 5 with file types in directories, and no feature but those that are known
 abbrev pub has_features : Superblock → Bool
@@ -113,18 +113,18 @@ has_features s =
     s.versionnum % 16 == 5 && has_flag s.incompat 0 && nat_lt s.ro_compat 16 && nat_lt s.incompat 64 && s.log_incompat == 0
 
 -- which reasons say that a volume has what isn't served
-abbrev pub IsUnserved : Superblock → Reason → Type 0
-IsUnserved s Feature = has_features s ≡ false
-IsUnserved s Reflink = has_flag s.ro_compat 2 ≡ true
-IsUnserved s ReverseMap = has_flag s.ro_compat 1 ≡ true
-IsUnserved s RealTime = (s.rblocks == 0) ≡ false
-IsUnserved s ExternalLog = (s.logstart == 0) ≡ true
-IsUnserved s NeedsRepair = has_flag s.incompat 4 ≡ true
-IsUnserved s InProgress = (s.inprogress == 0) ≡ false
-IsUnserved s _ = ⊥
+abbrev pub IsDeclined : Superblock → Reason → Type 0
+IsDeclined s Feature = has_features s ≡ false
+IsDeclined s Reflink = has_flag s.ro_compat 2 ≡ true
+IsDeclined s ReverseMap = has_flag s.ro_compat 1 ≡ true
+IsDeclined s RealTime = (s.rblocks == 0) ≡ false
+IsDeclined s ExternalLog = (s.logstart == 0) ≡ true
+IsDeclined s NeedsRepair = has_flag s.incompat 4 ≡ true
+IsDeclined s InProgress = (s.inprogress == 0) ≡ false
+IsDeclined s _ = ⊥
 
 -- none of them does
-pub record IsServed (s : Superblock) : Type 0 where
+pub record IsAccepted (s : Superblock) : Type 0 where
   pub features : has_features s ≡ true
   pub reflink : has_flag s.ro_compat 2 ≡ false
   pub reverse_map : has_flag s.ro_compat 1 ≡ false
@@ -144,11 +144,11 @@ SpeaksAgainst sectors bytes BadGeometry = is_laid_out sectors (superblock_in byt
 SpeaksAgainst sectors bytes (Checksum sector) =
     (sector ≡ 0) × (is_sector_size (superblock_in bytes).sectsize ≡ true) × (has_superblock_checksum bytes ≡ false)
 SpeaksAgainst sectors bytes (Header sector) = (sector ≡ 0) × (has_magic (superblock_in bytes) ≡ false)
-SpeaksAgainst sectors bytes reason = IsUnserved (superblock_in bytes) reason
+SpeaksAgainst sectors bytes reason = IsDeclined (superblock_in bytes) reason
 
 -- none does
 pub record IsSuperblock (sectors : ℕ) (bytes : List ℕ) : Type 0 where
   pub magic : has_magic (superblock_in bytes) ≡ true
   pub geometry : is_laid_out sectors (superblock_in bytes) ≡ true
-  pub served : IsServed (superblock_in bytes)
+  pub served : IsAccepted (superblock_in bytes)
   pub checksum : has_superblock_checksum bytes ≡ true

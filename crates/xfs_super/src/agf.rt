@@ -38,7 +38,7 @@ pub struct Agf {
 
 impl Agf {
     ghost use Rattle.std.specs.Prelude.{◌≡◌, ◌<◌, ◌≤◌, length};
-    ghost use Rattle.xfs_super.specs.Headers.{agf_in, fits_agf, is_agf, has_free_list, capacity};
+    ghost use Rattle.xfs_super.specs.Headers.{agf_in, fits_agf, is_agf, has_free_list, list_capacity};
     ghost use Rattle.xfs_super.specs.Super.{geometry_of};
 
     #[tactic(auto, unfolding(crate::specs::Headers::agf_in))]

@@ -1,6 +1,6 @@
 //! The list of free blocks that a group keeps for its trees of free space.
 ghost use Rattle.std.specs.Prelude.{◌≡◌, ◌+◌, ◌-◌, ◌*◌, ◌/◌, ◌<◌, ◌≤◌, length, true, slice_index, OnOk, IfErr};
-ghost use Rattle.xfs_super.specs.Headers.{agfl_entry, capacity, used_entries, are_used_inside, IsAgfl, IsSoundAgf, SpeaksAgainstAgfl, SpeaksAgainstUsed};
+ghost use Rattle.xfs_super.specs.Headers.{agfl_entry, list_capacity, used_entries, are_used_inside, IsAgfl, IsSoundAgf, SpeaksAgainstAgfl, SpeaksAgainstUsed};
 ghost use Rattle.xfs_super.specs.Super.{geometry_of};
 
 use crate::agf::Agf;
@@ -32,7 +32,7 @@ pub fn agfl_of(bytes: &[u8], geo: &Super, group: u32) -> Result<(), Reason>
 
 /// Entry `i` of an AGFL: a block of its group.
 pub fn agfl_entry(bytes: &[u8], i: u32) -> u32
-    requires { i < capacity (length bytes.now) }
+    requires { i < list_capacity (length bytes.now) }
     ensures { result ≡ agfl_entry bytes.now i }
 {
     big_u32(bytes, 36 + 4 * i as usize)
@@ -42,9 +42,9 @@ pub fn agfl_entry(bytes: &[u8], i: u32) -> u32
 pub fn used_entry(bytes: &[u8], agf: &Agf, i: u32) -> u32
     requires sector { 512 ≤ length bytes.now }
     requires short { length bytes.now ≤ 4096 }
-    requires first { agf.now.flfirst < capacity (length bytes.now) }
+    requires first { agf.now.flfirst < list_capacity (length bytes.now) }
     requires used { i < agf.now.flcount }
-    requires listed { agf.now.flcount ≤ capacity (length bytes.now) }
+    requires listed { agf.now.flcount ≤ list_capacity (length bytes.now) }
     ensures { result ≡ slice_index (used_entries agf.now bytes.now) i }
 {
     let capacity = ((bytes.len() - 36) / 4) as u32;

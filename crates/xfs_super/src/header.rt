@@ -1,7 +1,7 @@
 //! What the headers of a group have in common.
 ghost use Rattle.std.specs.Prelude.{◌≡◌, ◌+◌, ◌<◌, ◌≤◌, length, true, Bool, OnOk, IfErr};
 ghost use Rattle.xfs_super.specs.Geometry.{header_sector};
-ghost use Rattle.xfs_super.specs.Headers.{is_height, IsHeader, SpeaksAgainstHeader};
+ghost use Rattle.xfs_super.specs.Headers.{is_height, PassesAsHeader, SpeaksAgainstHeader};
 ghost use Rattle.xfs_super.specs.Super.{geometry_of};
 
 use crate::bytes::has_checksum;
@@ -31,7 +31,7 @@ pub(crate) fn header_sector(geo: &Super, group: u32, k: u32) -> u64
 /// other tests.
 pub(crate) fn judge(bytes: &[u8], sector: u64, at: usize, passes: bool) -> Result<(), Reason>
     requires { at + 4 ≤ length bytes.now }
-    ensures sound { OnOk result (IsHeader at passes bytes.now) }
+    ensures sound { OnOk result (PassesAsHeader at passes bytes.now) }
     ensures reason { IfErr result (SpeaksAgainstHeader sector at passes bytes.now) }
 {
     if !has_checksum(bytes, at) {

@@ -1,6 +1,6 @@
 //! What holds of the definitions.
 ghost use Rattle.xfs_super.specs.Agreement.{FreeIsElsewhere, DiffersInBlocks};
-ghost use Rattle.xfs_super.specs.Laws.{NoReasonSpeaks, NoReasonIsLeft, HeadersStandInBlocks};
+ghost use Rattle.xfs_super.specs.Laws.{NoReasonSpeaks, NoReasonIsLeft, HeadersStandInBlocks, FactsAreTests};
 
 /// The law that a superblock or a header is sound exactly where no reason speaks against it. A call does
 /// nothing.
@@ -19,4 +19,10 @@ pub fn free_is_elsewhere()
 /// blocks is what was read of it by sectors. A call does nothing.
 pub fn headers_stand_in_blocks()
     ensures { HeadersStandInBlocks }
+{}
+
+/// The law that the facts of a [`crate::Super`] on its groups and its log say what the tests of a superblock
+/// say. A call does nothing.
+pub fn facts_are_tests()
+    ensures { FactsAreTests }
 {}

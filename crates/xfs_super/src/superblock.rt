@@ -1,7 +1,7 @@
 //! The superblock.
 ghost use Rattle.std.specs.Prelude.{◌≡◌, ◌+◌, ◌*◌, ◌^◌, ◌<◌, ◌≤◌, length, ℕ, true, false, OnOk, IfOk, IfErr, Ok, Err};
 ghost use Rattle.xfs_super.specs.Geometry.{is_least_log, are_groups, is_log_place, AreGroups, AreSizes, IsLogPlace};
-ghost use Rattle.xfs_super.specs.Superblock.{superblock_in, geometry_from, geometry_in, has_magic, has_sizes, has_sector_size, has_inode_sizes, has_features, is_inside, is_laid_out, has_checksum, SpeaksAgainst, IsSuperblock, IsUnserved, IsServed, has_superblock_checksum, has_places};
+ghost use Rattle.xfs_super.specs.Superblock.{superblock_in, geometry_from, geometry_in, has_magic, has_sizes, has_sector_size, has_inode_sizes, has_features, fits_volume, is_laid_out, has_checksum, SpeaksAgainst, IsSuperblock, IsDeclined, IsAccepted, has_superblock_checksum, has_places};
 ghost use Rattle.xfs_super.specs.inside.Layout.{IsLaidOut};
 ghost use Rattle.xfs_super.specs.Super.{geometry_of};
 
@@ -171,7 +171,7 @@ impl Superblock {
         requires { self.now ≡ superblock_in bytes.now }
         ensures magic { OnOk result (has_magic self.now ≡ true) }
         ensures sizes { OnOk result (has_sizes self.now ≡ true) }
-        ensures inside { OnOk result (is_inside sectors self.now ≡ true) }
+        ensures inside { OnOk result (fits_volume sectors self.now ≡ true) }
         ensures checksum { OnOk result (has_superblock_checksum bytes.now ≡ true) }
         ensures reason { IfErr result (SpeaksAgainst sectors bytes.now) }
     {
@@ -189,8 +189,8 @@ impl Superblock {
 
     /// Whether the volume has nothing that isn't served.
     fn judge_features(&self) -> Result<(), Reason>
-        ensures served { OnOk result (IsServed self.now) }
-        ensures reason { IfErr result (IsUnserved self.now) }
+        ensures served { OnOk result (IsAccepted self.now) }
+        ensures reason { IfErr result (IsDeclined self.now) }
     {
         if !self.has_features() {
             return Err(Reason::Feature);
