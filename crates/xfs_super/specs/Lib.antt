@@ -4,4 +4,5 @@ pub mod Superblock
 pub mod Headers
 pub mod Agreement
 pub mod Laws
+pub mod Text
 pub mod inside

@@ -11,8 +11,7 @@
 //! `specs/Agreement.antt` has the words on claimed blocks and on volumes that agree, and `proofs/Agreements.antt`
 //! and `proofs/Passing.antt` the facts about them, which the crates above cite.
 //!
-//! It stands on disk_base for numbers in bytes and for checksums, and on thiserror for the texts of its
-//! reasons.
+//! It stands on disk_base, for numbers in bytes and for checksums.
 #![tactic(auto)]
 
 mod agf;

@@ -7,3 +7,5 @@
 mod headers;
 #[cfg(test)]
 mod superblocks;
+#[cfg(test)]
+mod texts;
