@@ -258,6 +258,7 @@ impl Superblock {
 pub fn super_of(bytes: &[u8; 4096], sectors: u64) -> Result<Super, Reason>
     ensures sound { OnOk result (IsSuperblock sectors bytes.now) }
     ensures fields { IfOk result (λ geo. geometry_of geo ≡ geometry_in bytes.now) }
+    ensures inside { IfOk result (λ geo. 8 * geo.dblocks ≤ sectors) }
     ensures reason { IfErr result (SpeaksAgainst sectors bytes.now) }
 {
     let fields = superblock_in(bytes);
