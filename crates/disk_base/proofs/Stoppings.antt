@@ -11,7 +11,8 @@ use Rattle.disk_base.specs.Past.{Event, Idle, Wrote, GaveUp, Flushed, Created, e
 use Rattle.disk_base.specs.Replays.{leaves_held}
 use Rattle.disk_base.specs.Stopped.{event_at, meanwhile, LeftInside, settles, IsLasting, IsStopped, touched, cut_short, kept}
 use Rattle.disk_base.proofs.Images.{range_in_range, length-with_bytes, agrees_with_bytes, bytes_written, bytes_behind}
-use Rattle.disk_base.proofs.Replaying.{image_more}
+use Rattle.disk_base.specs.Memory.{LeftSince}
+use Rattle.disk_base.proofs.Replaying.{image_more, more_leaves}
 
 -- what the loops keep
 pub record Goes (within so_far : Type 0) : Type 0 where
@@ -394,3 +395,27 @@ module _ (first written : List ℕ) (history : List Effect) (call lasting before
 
       pub is_left : LeftInside first all call result
       is_left = subst (LeftInside first all call) (sym shown) (left_inside first all call keep fill lasting lasts inside)
+
+-- what a stop inside a call may leave is what a stop since the moment before it may have left
+since_event : (first : List ℕ) (past : List Event) (call calls : ℕ) (c : List ℕ) → call < calls → (event : Event) → event_at past call ≡ event
+    → meanwhile (Leaves (take call past) first (λ d. d ≡ first)) event c → LeftSince first past calls call c
+since_event first past call calls c made Idle is left = (call, omega arith, omega arith, left)
+since_event first past call calls c made (Wrote at bytes) is left = elim (cases_lt call (length past)) [
+  | inl small ↦
+      let more = more_leaves (take call past) (Wrote at bytes) first (λ d. d ≡ first) c left in
+      let step : take (call + 1) past ≡ take call past ++ Wrote at bytes ∷ [] = take_step past call Idle small ∙ ap (λ (e : Event). take call past ++ e ∷ []) is in
+      (call + 1, omega arith, omega arith, subst (λ (es : List Event). Leaves es first (λ d. d ≡ first) c) (sym step) more)
+  | inr past_end ↦ let none : event_at past call ≡ Idle = get_or_past past call Idle past_end in cc
+]
+since_event first past call calls c made (GaveUp at n) is left = elim (cases_lt call (length past)) [
+  | inl small ↦
+      let more = more_leaves (take call past) (GaveUp at n) first (λ d. d ≡ first) c left in
+      let step : take (call + 1) past ≡ take call past ++ GaveUp at n ∷ [] = take_step past call Idle small ∙ ap (λ (e : Event). take call past ++ e ∷ []) is in
+      (call + 1, omega arith, omega arith, subst (λ (es : List Event). Leaves es first (λ d. d ≡ first) c) (sym step) more)
+  | inr past_end ↦ let none : event_at past call ≡ Idle = get_or_past past call Idle past_end in cc
+]
+since_event first past call calls c made Flushed is left = (call, omega arith, omega arith, left)
+since_event first past call calls c made (Created n) is left = (call, omega arith, omega arith, left)
+
+pub left_since : (first : List ℕ) (past : List Event) (call calls : ℕ) (c : List ℕ) → call < calls → LeftInside first past call c → LeftSince first past calls call c
+left_since first past call calls c made left = since_event first past call calls c made (event_at past call) refl left

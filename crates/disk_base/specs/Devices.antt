@@ -3,8 +3,12 @@ use Rattle.std.specs.Prelude.{◌≡◌, ℕ, ◌≤◌, ◌⊎◌, ◌++◌, ta
 use Rattle.disk_base.specs.declared.device.Mode.{Mode}
 use Rattle.disk_base.specs.declared.device.Blocks.{Ghosts as BlocksGhosts}
 use Rattle.disk_base.specs.declared.device.Disk.{Ghosts as DiskGhosts}
+use Rattle.disk_base.specs.declared.device.DeviceFault.{DeviceFault}
+use Rattle.disk_base.specs.declared.device.DeviceFault.TheVariants.{Source, Target}
 use Rattle.disk_base.specs.declared.output.Sink.{Ghosts as SinkGhosts}
+use Rattle.disk_base.specs.Faults.{Rose}
 use Rattle.disk_base.specs.Log.{Log, Asked}
+use Rattle.disk_base.specs.Stops.{Stops}
 
 -- the disk was not asked for between these two states of its log
 pub record SameAsks (old new : Log) : Type 0 where
@@ -21,16 +25,31 @@ pub record Used {D : Type 0} (b : BlocksGhosts D) (d : DiskGhosts D) (old new : 
   pub later : b.faults old ≤ b.faults new
   pub asks : IsTrue b.tells → SameAsks (d.log old) (d.log new)
 
+-- the cause of a device's fault: whose count of faults rose
+abbrev pub CausedBy : {S T : Type 0} → BlocksGhosts S → S → S → BlocksGhosts T → T → T → DeviceFault → Type 0
+CausedBy s source source' t target target' Source = Rose (s.faults source) (s.faults source')
+CausedBy s source source' t target target' Target = Rose (t.faults target) (t.faults target')
+
 -- what is known of a disk at one moment
-pub record Held : Type 0 where
+pub record Held : Type 1 where
   pub tells : Bool  -- whether image and log are known
   pub image : List ℕ
   pub log : Log
   pub attached : Option Mode
   pub faults : ℕ
+  pub tells_stops : Bool  -- whether its stops are known
+  pub stops : Stops
 
 abbrev pub held : {D : Type 0} → BlocksGhosts D → DiskGhosts D → D → Held
-held b d disk = record { tells = b.tells; image = b.image disk; log = d.log disk; attached = d.attached disk; faults = b.faults disk }
+held b d disk = record {
+  tells = b.tells;
+  image = b.image disk;
+  log = d.log disk;
+  attached = d.attached disk;
+  faults = b.faults disk;
+  tells_stops = d.tells_stops;
+  stops = d.stops disk;
+}
 
 -- what is known of a stream at one moment
 pub record Stream : Type 0 where

@@ -1,5 +1,5 @@
 -- What a disk holds: its bytes, 512 to a sector. A range is named by its first byte and its length.
-use Rattle.std.specs.Prelude.{◌≡◌, ℕ, ◌+◌, ◌*◌, ◌<◌, ◌≤◌, List, ◌++◌, length, take, drop, slice_index, ◌⊎◌}
+use Rattle.std.specs.Prelude.{◌≡◌, ℕ, ◌+◌, ◌*◌, ◌/◌, ◌<◌, ◌≤◌, List, ◌++◌, length, take, drop, slice_index, ◌⊎◌}
 
 -- the `n` bytes from byte `from` on
 abbrev pub bytes_at : List ℕ → ℕ → ℕ → List ℕ
@@ -12,6 +12,10 @@ with_bytes image from bytes = take from image ++ bytes ++ drop (from + length by
 -- sector `k`
 abbrev pub sector : List ℕ → ℕ → List ℕ
 sector image k = bytes_at image (512 * k) 512
+
+-- how many sectors a disk has that holds this
+abbrev pub sectors_of : List ℕ → ℕ
+sectors_of image = length image / 512
 
 -- two disks of one length that are equal at each byte outside the `n` bytes from `from` on
 pub record AgreesOutside (from n : ℕ) (old new : List ℕ) : Type 0 where

@@ -1,3 +1,4 @@
+pub mod Bytes
 pub mod Checksum
 pub mod Faults
 pub mod Image
@@ -5,6 +6,7 @@ pub mod Log
 pub mod Memory
 pub mod MemoryText
 pub mod Past
+pub mod Ram
 pub mod Replays
 pub mod Stopped
 pub mod Stops

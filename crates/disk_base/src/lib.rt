@@ -10,6 +10,7 @@
 //! words on its ranges, and `proofs/Images.antt` the facts about them that the crates above cite.
 #![tactic(auto)]
 
+mod byte_disk;
 mod checksum;
 mod checksum_table;
 mod collections;
@@ -18,8 +19,10 @@ mod fields;
 mod memory;
 mod memory_sink;
 mod output;
+mod ram_disk;
 mod run;
 
+pub use byte_disk::ByteDisk;
 pub use checksum::{crc32, crc32_lvm, crc32c, crc32c_without, one_checksum};
 pub use collections::{List, Name};
 pub use device::{Ask, Blocks, DeviceFault, Disk, Failed, MOST_SECTORS, Mode, SECTOR};
@@ -27,6 +30,7 @@ pub use fields::{big_u16, big_u32, big_u64, little_u16, little_u32, little_u64, 
 pub use memory::{MemDisk, MemLimits};
 pub use memory_sink::MemSink;
 pub use output::Sink;
+pub use ram_disk::RamDisk;
 pub use run::Run;
 
 #[cfg(test)]

@@ -323,7 +323,8 @@ impl MemDisk {
         self.faults
     }
 
-    /// One image that a stop inside that call may leave. What was lasting before the call stands; of the
+    /// One image that a stop inside that call may leave, and so one of those that a stop since the moment
+    /// before it may have left. What was lasting before the call stands; of the
     /// sectors that the calls since then wrote or gave up, up to and including that call, in order of calls
     /// and then of sectors, the first `keep` have the bytes written or are filled with `fill`.
     pub fn stopped(
@@ -336,6 +337,7 @@ impl MemDisk {
         requires made { call < (state_of self.now).calls }
         requires not_created { is_created (event_at (state_of self.now).past call) ≡ false }
         ensures left { IfOk result (λ image. LeftInside (state_of self.now).first (state_of self.now).past call image.items) }
+        ensures since { IfOk result (λ image. (stops_of (state_of self.now)).left_since call image.items) }
         ensures stopped { IfOk result (λ image. IsStopped (state_of self.now).first (state_of self.now).past call keep fill image.items) }
     {
         stopped(

@@ -158,11 +158,12 @@ fn first_bytes(
     disk: &MemDisk,
     call: u64,
     keep: u64,
+    fill: u8,
 ) -> Result<[Option<u8>; 3], AllocError> {
     if !disk.has_stops(call) {
         return Ok([None; 3]);
     }
-    let image = disk.stopped(alloc, call, keep, 0x5A)?;
+    let image = disk.stopped(alloc, call, keep, fill)?;
     Ok([
         image.get(0).copied(),
         image.get(512).copied(),
@@ -178,22 +179,93 @@ fn a_stop_leaves_what_was_lasting_and_the_first_sectors_since(rt: HostRuntime) -
     let done = five_calls(&mut disk, NAME);
     assert_eq!(rt; done, [true; 5]);
     assert_eq!(rt; disk.attach(b"b.img", Mode::Read), Err(Failed));
-    let rows: [(u64, u64, [u8; 3]); 9] = [
-        (0, 9, [1, 1, 1]),
-        (1, 0, [1, 1, 1]),
-        (1, 1, [1, 7, 1]),
-        (1, 2, [1, 7, 7]),
-        (2, 1, [1, 7, 1]),
-        (3, 2, [1, 7, 7]),
-        (3, 3, [1, 7, 0x5A]),
-        (4, 1, [1, 7, 1]),
-        (5, 0, [1, 7, 0xA5]),
+    // The call, how many sectors take effect, and whether the last sector is then one that was given up.
+    let rows: [(u64, u64, [u8; 3], bool); 18] = [
+        (0, 0, [1, 1, 1], false),
+        (0, 1, [1, 1, 1], false),
+        (0, 9, [1, 1, 1], false),
+        (1, 0, [1, 1, 1], false),
+        (1, 1, [1, 7, 1], false),
+        (1, 9, [1, 7, 7], false),
+        (2, 0, [1, 1, 1], false),
+        (2, 1, [1, 7, 1], false),
+        (2, 9, [1, 7, 7], false),
+        (3, 0, [1, 1, 1], false),
+        (3, 1, [1, 7, 1], false),
+        (3, 9, [1, 7, 0], true),
+        (4, 0, [1, 1, 1], false),
+        (4, 1, [1, 7, 1], false),
+        (4, 9, [1, 7, 0], true),
+        (5, 0, [1, 7, 0xA5], false),
+        (5, 1, [1, 7, 0xA5], false),
+        (5, 9, [1, 7, 0xA5], false),
     ];
-    for (call, keep, bytes) in rows {
-        let want = [Some(bytes[0]), Some(bytes[1]), Some(bytes[2])];
-        assert_eq!(rt; first_bytes(alloc, &disk, call, keep)?, want, "call {call}, keep {keep}");
+    for fill in [0x00, 0x5A] {
+        for (call, keep, bytes, given_up) in rows {
+            let last = if given_up { fill } else { bytes[2] };
+            let want = [Some(bytes[0]), Some(bytes[1]), Some(last)];
+            let image = first_bytes(alloc, &disk, call, keep, fill)?;
+            assert_eq!(rt; image, want, "call {call}, keep {keep}");
+        }
     }
     Ok(())
+}
+
+// Creates a disk of two sectors, and writes the second one: which of these answered Ok.
+fn two_calls<D: Disk>(disk: &mut D) -> [bool; 3] {
+    let mut done = [false; 3];
+    let Ok(()) = disk.attach(b"any", Mode::Create(2)) else {
+        return done;
+    };
+    done[0] = true;
+    if disk.sectors() == 2 {
+        done[1] = disk.write(1, &[7; 512]).is_ok();
+    }
+    done[2] = disk.flush().is_ok();
+    done
+}
+
+#[test]
+fn a_disk_without_a_record_takes_what_it_has_room_for(rt: HostRuntime) -> Result<(), Fail> {
+    let alloc = rt.alloc();
+    let mut disk = RamDisk::new(alloc, NAME, 1, 4)?;
+    assert!(rt; !disk.can_discard());
+    assert_eq!(rt; two_calls(&mut disk), [true; 3]);
+    assert_eq!(rt; disk.image().len(), 1024);
+    assert_eq!(rt; disk.image().get(511).copied(), Some(0));
+    assert_eq!(rt; disk.image().get(512).copied(), Some(7));
+    assert_eq!(rt; disk.attach(b"b.img", Mode::Create(5)), Err(Failed));
+    assert_eq!(rt; disk.faults(), 1);
+    assert_eq!(rt; disk.image().len(), 1024);
+    Ok(())
+}
+
+#[test]
+fn a_disk_of_bytes_has_zeros_behind_them(rt: HostRuntime) -> Result<(), Fail> {
+    let alloc = rt.alloc();
+    let bytes = vec![in alloc; 3u8; 520]?;
+    assert_eq!(rt; bytes.len(), 520);
+    let mut disk = ByteDisk::new(bytes, 3, Some(1));
+    let mut out = [9; 512];
+    assert_eq!(rt; disk.sectors(), 3);
+    assert_eq!(rt; disk.read(1, &mut out), Ok(()));
+    assert_eq!(rt; [out[0], out[7], out[8], out[511]], [3, 3, 0, 0]);
+    assert_eq!(rt; disk.read(0, &mut out), Err(Failed));
+    assert_eq!(rt; disk.reads(), 2);
+    Ok(())
+}
+
+#[test]
+fn numbers_are_read_in_both_byte_orders(rt: HostRuntime) {
+    let bytes = [0, 1, 2, 3, 4, 5, 6, 7, 8];
+    assert_eq!(rt; (little_u16(&bytes, 1), big_u16(&bytes, 1)), (0x0201, 0x0102));
+    assert_eq!(rt; (little_u32(&bytes, 1), big_u32(&bytes, 1)), (0x0403_0201, 0x0102_0304));
+    assert_eq!(rt; (little_u64(&bytes, 1), big_u64(&bytes, 1)), (0x0807_0605_0403_0201, 0x0102_0304_0506_0708));
+    let mut out = [9; 4];
+    put(&mut out, 1, &[5, 6]);
+    assert_eq!(rt; out, [9, 5, 6, 9]);
+    let run = Run { start: 2, count: 3 };
+    assert_eq!(rt; run.end(), 5);
 }
 
 #[test]
@@ -217,7 +289,9 @@ fn lists_and_names_hold_what_they_are_given(rt: HostRuntime) -> Result<(), Fail>
     assert!(rt; list.push(3u8).is_ok());
     assert!(rt; list.push(4u8).is_ok());
     assert_eq!(rt; list.items(), [3, 4].as_slice());
+    assert_eq!(rt; list.pop(), Some(4));
     assert_eq!(rt; Name::of(alloc, b"a b")?.bytes(), b"a b".as_slice());
+    assert_eq!(rt; Name::from_vec(b"a".to_vec(alloc)?).bytes(), b"a".as_slice());
     assert_eq!(rt;
         format!(in alloc; "{}, {}", DeviceFault::Source, DeviceFault::Target)?.as_str(),
         "source device, target device"

@@ -2,17 +2,18 @@
 use Rattle.std.proofs.lemmas.Bool.{cases_lt, false≢true}
 use Rattle.std.proofs.lemmas.List.{length-replicate, take_all}
 use Rattle.std.proofs.lemmas.List.Elements.{All-get_or}
-use Rattle.std.proofs.Common.{◌≡◌, ℕ, ◌+◌, ◌-◌, ◌*◌, ◌<◌, ◌≤◌, List, length, arith, ◌∙◌, sym, ap, slice_index, inl, inr, slice_index_or, replicate, Result, Ok, Err, IfErr, OnErr, is_ok, false}
+use Rattle.std.proofs.Common.{◌≡◌, ℕ, ◌+◌, ◌-◌, ◌*◌, ◌/◌, ◌<◌, ◌≤◌, List, length, arith, refl, ◌∙◌, sym, ap, cond, slice_index, inl, inr, slice_index_or, replicate, Result, Ok, Err, IfErr, OnOk, OnErr, is_ok, true, false}
 use Rattle.disk_base.specs.Image.{with_bytes, sector, AgreesOutside, HalfWritten}
 use Rattle.disk_base.proofs.Images.{sector_written, sector_behind, length-with_bytes, agrees_with_bytes, byte_of_range}
 use Rattle.std.proofs.lemmas.Grind.{same_number_lists}
 use Rattle.disk_base.specs.declared.device.DeviceFault.{DeviceFault}
 use Rattle.disk_base.specs.declared.device.DeviceFault.TheVariants.{Source, Target}
-use Rattle.resize_core.specs.declared.transfer.Transfer.{Transfer}
-use Rattle.resize_core.specs.Transfers.{IsCopied, AreCopied, OnlyWithin, OldOrWith}
-use Rattle.resize_core.specs.Finished.{IsFinished, IsCarriable, HasNoTable, LeavesNoTable, boot_transfer}
-use Rattle.resize_core.specs.Ready.{Work, IsDone, IsAtGate}
-use Rattle.resize_core.proofs.Copies.{begun_outside}
+use Rattle.run_copy.specs.declared.transfer.Transfer.{Transfer}
+use Rattle.run_copy.specs.Copies.{due, is_left_out, IsCopied, AreCopied, OnlyIn, OnlyWithin}
+use Rattle.resize_core.specs.inside.Phases.{OldOrWith, KeepsFirst, IsFilled}
+use Rattle.resize_core.specs.Finished.{IsCarriable, HasNoTable, LeavesNoTable, boot_transfer}
+use Rattle.resize_core.specs.Ready.{Work, IsDone, IsAtGate, CanBeDone}
+use Rattle.run_copy.proofs.Copies.{begun_outside}
 
 pub zeros_long : length {A = ℕ} (replicate 512 0) ≡ 512
 zeros_long = length-replicate {A = ℕ} 512 0
@@ -30,14 +31,52 @@ sector_later image bytes k long fits later = sector_behind image 0 bytes k (omeg
 pub no_table_cleared : (old cleared : List ℕ) (sectors : ℕ) → length old ≡ 512 * sectors → 0 < sectors → cleared ≡ with_bytes old 0 (replicate 512 0) → HasNoTable cleared
 no_table_cleared old cleared sectors long some clears = ap (λ disk. sector disk 0) clears ∙ sector_zero old (replicate 512 0) zeros_long (omega arith)
 
-module _ (source_sectors target_sectors boot : ℕ) (transfers : List Transfer) (table source old cleared contents booted new : List ℕ)
-    (carriable : IsCarriable source_sectors target_sectors boot transfers)
-    (table_long : length table ≡ 512)
-    (old_long : length old ≡ 512 * target_sectors)
+pub keeps_first_on : (a b c : List ℕ) → KeepsFirst a b → KeepsFirst b c → KeepsFirst a c
+keeps_first_on a b c r s = record { same_length = s.same_length ∙ r.same_length; first = s.first ∙ r.first }
+
+pub keeps_first_here : (a : List ℕ) → KeepsFirst a a
+keeps_first_here a = record { same_length = refl; first = refl }
+
+-- the two copies leave sector 0, and fill the rest
+module _ (source_sectors target_sectors boot : ℕ) (transfers : List Transfer) (carriable : IsCarriable source_sectors target_sectors boot transfers) where
+  pub keeps_within : (old new : List ℕ) → OnlyWithin transfers old new → KeepsFirst old new
+  keeps_within old new within = record {
+    same_length = within.same_length;
+    first = within.others 0 (λ i d h low.
+        let Behind : Transfer → Type 0 = λ t. boot ≤ t.to in
+        let far : boot ≤ (slice_index_or transfers i d).to = All-get_or Behind transfers i d h carriable.behind_boot in
+        let positive = carriable.behind_table in
+        absurd (omega arith));
+  }
+
+  pub keeps_booting : (old new : List ℕ) → OnlyIn (boot_transfer boot) old new → KeepsFirst old new
+  keeps_booting old new agrees = record { same_length = agrees.same_length; first = begun_outside (boot_transfer boot) old new agrees 0 (λ low. absurd (omega arith)) }
+
+  pub filled : (source old contents new : List ℕ) → AreCopied transfers (length transfers) source old contents → IsCopied (boot_transfer boot) (boot - 1) source contents new
+      → OnlyWithin transfers old contents → OnlyIn (boot_transfer boot) contents new → IsFilled boot transfers source old new
+  filled source old contents new copies boots within booting =
+      let positive = carriable.behind_table in
+      let behind : (k : ℕ) → boot ≤ k → sector new k ≡ sector contents k = λ k far. boots.others k (λ low. omega (arith, positive)) in
+      record {
+        keeps_first = keeps_first_on old contents new (keeps_within old contents within) (keeps_booting contents new booting);
+        boot_area = λ k later small.
+            let is : k ≡ 1 + (k - 1) = omega arith in
+            ap (λ j. sector new j) is ∙ boots.copied (k - 1) (omega arith) ∙ ap (λ j. sector source j) (sym is);
+        copied = λ i d h k small.
+            let Behind : Transfer → Type 0 = λ t. boot ≤ t.to in
+            let far : boot ≤ (slice_index_or transfers i d).to = All-get_or Behind transfers i d h carriable.behind_boot in
+            behind ((slice_index_or transfers i d).to + k) (omega arith) ∙ copies.copied i d h k small;
+        others = λ k later far outside. behind k far ∙ copies.others k outside;
+      }
+
+-- clearing, filling and the new sector 0 make the finished target
+module _ (work : Work) (source old cleared booted new : List ℕ)
+    (carriable : CanBeDone work)
+    (table_long : length work.table ≡ 512)
+    (old_long : length old ≡ 512 * work.target_sectors)
     (clears : cleared ≡ with_bytes old 0 (replicate 512 0))
-    (copies : AreCopied transfers (length transfers) source cleared contents)
-    (boots : IsCopied (boot_transfer boot) (boot - 1) source contents booted)
-    (puts : new ≡ with_bytes booted 0 table) where
+    (fills : IsFilled work.boot work.transfers source cleared booted)
+    (puts : new ≡ with_bytes booted 0 work.table) where
   some : 512 ≤ length old
   some = let one = carriable.some in omega arith
 
@@ -45,61 +84,38 @@ module _ (source_sectors target_sectors boot : ℕ) (transfers : List Transfer) 
   cleared_length = ap length clears ∙ length-with_bytes old 0 (replicate 512 0) (omega (arith, some, zeros_long))
 
   booted_length : length booted ≡ length old
-  booted_length = boots.same_length ∙ copies.same_length ∙ cleared_length
+  booted_length = fills.keeps_first.same_length ∙ cleared_length
 
   booted_some : 512 ≤ length booted
   booted_some = omega (arith, booted_length, some)
 
   new_later : (k : ℕ) → 0 < k → sector new k ≡ sector booted k
-  new_later k later = ap (λ disk. sector disk k) puts ∙ sector_later booted table k table_long booted_some later
+  new_later k later = ap (λ disk. sector disk k) puts ∙ sector_later booted work.table k table_long booted_some later
 
   cleared_later : (k : ℕ) → 0 < k → sector cleared k ≡ sector old k
   cleared_later k later = ap (λ disk. sector disk k) clears ∙ sector_later old (replicate 512 0) k (zeros_long) some later
 
-  positive : 0 < boot
-  positive = carriable.behind_table
-
-  -- a sector behind the boot area
-  behind : (k : ℕ) → boot ≤ k → sector new k ≡ sector contents k
-  behind k far = new_later k (omega (arith, positive)) ∙ boots.others k (λ low. omega (arith, positive))
-
-  boot_copied : (k : ℕ) → 0 < k → k < boot → sector new k ≡ sector source k
-  boot_copied k later small =
-      let is : k ≡ 1 + (k - 1) = omega arith in
-      new_later k later ∙ ap (λ j. sector booted j) is ∙ boots.copied (k - 1) (omega arith) ∙ ap (λ j. sector source j) (sym is)
-
-  pub finished : IsFinished table boot transfers source old new
-  finished = record {
-    same_length = ap length puts ∙ length-with_bytes booted 0 table (omega (arith, booted_some, table_long)) ∙ booted_length;
-    table_is = ap (λ disk. sector disk 0) puts ∙ sector_zero booted table table_long booted_some;
-    boot_area = boot_copied;
-    copied = λ i d h k small.
-        let Behind : Transfer → Type 0 = λ t. boot ≤ t.to in
-        let far : boot ≤ (slice_index_or transfers i d).to = All-get_or Behind transfers i d h carriable.behind_boot in
-        behind ((slice_index_or transfers i d).to + k) (omega arith) ∙ copies.copied i d h k small;
-    others = λ k later far outside. behind k far ∙ copies.others k outside ∙ cleared_later k later;
-  }
-
--- transfers behind sector 0 leave it
-pub no_table_within : (source_sectors target_sectors boot : ℕ) (transfers : List Transfer) (old new : List ℕ) → IsCarriable source_sectors target_sectors boot transfers
-    → OnlyWithin transfers old new → HasNoTable old → HasNoTable new
-no_table_within source_sectors target_sectors boot transfers old new carriable within none =
-    within.others 0 (λ i d h low.
-    let Behind : Transfer → Type 0 = λ t. boot ≤ t.to in
-    let far : boot ≤ (slice_index_or transfers i d).to = All-get_or Behind transfers i d h carriable.behind_boot in
-    let positive = carriable.behind_table in
-    absurd (omega arith))
-    ∙ none
+  pub finished : IsDone work source old new
+  finished =
+      let positive = carriable.behind_table in
+      record {
+        same_length = ap length puts ∙ length-with_bytes booted 0 work.table (omega (arith, booted_some, table_long)) ∙ booted_length;
+        table_is = ap (λ disk. sector disk 0) puts ∙ sector_zero booted work.table table_long booted_some;
+        boot_area = λ k later small. new_later k later ∙ fills.boot_area k later small;
+        copied = λ i d h k small.
+            let Behind : Transfer → Type 0 = λ t. work.boot ≤ t.to in
+            let t : Transfer = slice_index_or work.transfers i d in
+            let far : work.boot ≤ t.to = All-get_or Behind work.transfers i d h carriable.behind_boot in
+            new_later (t.to + k) (omega arith) ∙ fills.copied i d h k small
+            ∙ ap (λ (s : List ℕ). cond (is_left_out source t (k / 2048)) s (sector source (t.from + k))) (cleared_later (t.to + k) (omega arith));
+        others = λ k later far outside. new_later k later ∙ fills.others k later far outside ∙ cleared_later k later;
+      }
 
 -- whichever disk failed
 pub no_table_at_fault : {A : Type 0} (image : List ℕ) (r : Result A DeviceFault) → HasNoTable image → IfErr r (LeavesNoTable image)
 no_table_at_fault image (Ok x) none = tt
 no_table_at_fault image (Err Source) none = none
 no_table_at_fault image (Err Target) none = tt
-
--- the boot area leaves sector 0
-pub no_table_booting : (boot : ℕ) (old new : List ℕ) → AgreesOutside (512 * 1) (512 * (boot - 1)) old new → HasNoTable old → HasNoTable new
-no_table_booting boot old new agrees none = begun_outside (boot_transfer boot) old new agrees 0 (λ low. absurd (omega arith)) ∙ none
 
 -- disks that are equal in sector 0 and behind it
 same_of_first : (old new : List ℕ) → length new ≡ length old → sector new 0 ≡ sector old 0 → ((i : ℕ) → 512 ≤ i → slice_index new i ≡ slice_index old i) → new ≡ old
@@ -133,6 +149,10 @@ on_err (Err e) holds = holds
 pub at_err : {A E P : Type 0} (r : Result A E) → false ≡ is_ok r → OnErr r P → P
 at_err (Ok x) is holds = absurd (false≢true is)
 at_err (Err e) is holds = holds
+
+pub at_ok : {A E P : Type 0} (r : Result A E) → true ≡ is_ok r → OnOk r P → P
+at_ok (Ok x) is holds = holds
+at_ok (Err e) is holds = absurd (false≢true (sym is))
 
 -- the last write failed: there is no table, or the work is done
 pub at_gate : (work : Work) (source old booted new : List ℕ) → HasNoTable booted → (new ≡ with_bytes booted 0 work.table → IsDone work source old new)

@@ -1,7 +1,9 @@
-pub mod Copies
 pub mod Finishing
 pub mod Found
 pub mod PartsLemmas
 pub mod Placing
 pub mod ReadBack
 pub mod Stopping
+pub mod CopyLaw
+pub mod SourceLemmas
+pub mod WorkLemmas

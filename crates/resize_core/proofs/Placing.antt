@@ -12,12 +12,12 @@ use Rattle.layout_plan.specs.Plans.{Plan, IsInside, Apart}
 use Rattle.mbr_table.specs.declared.slot.Slot.{Slot}
 use Rattle.mbr_table.specs.Slot.{is_used, empty_slot, end_of}
 use Rattle.mbr_table.proofs.Tables.{used_bounds}
-use Rattle.resize_core.specs.declared.transfer.Transfer.{Transfer}
+use Rattle.run_copy.specs.declared.transfer.Transfer.{Transfer}
 use Rattle.resize_core.specs.Finished.{IsCarriable}
 use Rattle.resize_core.specs.Parts.{parts_of}
 use Rattle.resize_core.specs.Placing.{IsPlacing}
 use Rattle.resize_core.specs.Targets.{IsNamed, source_slot, transfer_of, transfers_of, boot_end, most_boot}
-use Rattle.resize_core.specs.Transfers.{IsBetween, WriteApart}
+use Rattle.run_copy.specs.Copies.{IsBetween, WriteApart}
 use Rattle.resize_core.proofs.PartsLemmas.{IsPartFrom, parts_each}
 
 -- a placed partition comes from a used slot of the source, and keeps its length

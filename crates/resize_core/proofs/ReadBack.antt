@@ -16,13 +16,14 @@ use Rattle.mbr_table.specs.declared.slot.Slot.{Slot}
 use Rattle.mbr_table.specs.Mbr.{Table, IsSound, IsSectorTable, slots_of, mbr_sector_of, table_of}
 use Rattle.mbr_table.specs.Slot.{empty_slot, is_used, is_extended, holds_extended, end_of, is_bad, kept}
 use Rattle.mbr_table.proofs.Tables.{same_slots, table_on_disk, table_written}
-use Rattle.resize_core.specs.declared.transfer.Transfer.{Transfer}
+use Rattle.run_copy.specs.declared.transfer.Transfer.{Transfer}
 use Rattle.resize_core.specs.Parts.{parts_of, parts_from, part_of}
 use Rattle.resize_core.specs.Placing.{IsPlacing}
 use Rattle.resize_core.specs.Ready.{Work, IsDone}
 use Rattle.resize_core.specs.Same.{HasSlot, HasPlannedTable, IsSamePart, ReadsSame, slot_on}
 use Rattle.resize_core.specs.Targets.{HasNoExtended, IsReady, plain_layout, source_slot, placed_slot, extra_slot, spare_slot, slot_or_spare, target_slot, target_slots, transfer_of}
-use Rattle.resize_core.proofs.Copies.{nothing}
+use Rattle.run_copy.specs.Copies.{due}
+use Rattle.run_copy.proofs.Copies.{nothing}
 use Rattle.resize_core.proofs.Found.{find_here}
 use Rattle.resize_core.proofs.PartsLemmas.{parts_rising}
 use Rattle.resize_core.proofs.Placing.{IsFromSlot, all_from_slots}
@@ -339,7 +340,7 @@ reads_same source_sectors target_sectors table work source old new ready placing
       let many : length work.transfers ≡ length work.plan.parts = ap length ready.transfers ∙ length-map work.plan.parts (transfer_of table.slots) in
       let at : slice_index_or work.transfers k nothing ≡ transfer_of table.slots (slice_index_or work.plan.parts k d) =
       ap (λ (all : List Transfer). slice_index_or all k nothing) ready.transfers ∙ get_or-map (transfer_of table.slots) work.plan.parts k d nothing h in
-      let Copied : Transfer → Type 0 = λ t. (i : ℕ) → i < t.count → sector new (t.to + i) ≡ sector source (t.from + i) in
+      let Copied : Transfer → Type 0 = λ t. (i : ℕ) → i < t.count → sector new (t.to + i) ≡ due source old t i in
       subst Copied at (done.copied k nothing (omega arith)) j low);
   none_lost = all_placed source_sectors target_sectors table.slots work.plan placing plain;
 }

@@ -1,16 +1,15 @@
 -- What a stop at any moment leaves of the target: what it held, no table, or the finished work.
-use Rattle.std.proofs.Common.{◌≡◌, ℕ, ◌-◌, ◌*◌, ◌≤◌, List, length, arith, inl, inr, replicate}
-use Rattle.disk_base.specs.Image.{with_bytes, AgreesOutside, HalfWritten}
-use Rattle.disk_base.specs.Stops.{Stops, AreOf, IsSettled, After, Adds, Follows}
-use Rattle.disk_base.proofs.Moments.{adds_weaker, follows_settled, now_follows}
-use Rattle.resize_core.specs.Transfers.{OnlyWithin}
-use Rattle.resize_core.specs.Finished.{IsCarriable, HasNoTable}
-use Rattle.resize_core.specs.Ready.{Work, IsDone, IsAtGate}
-use Rattle.resize_core.proofs.Copies.{only_within_here}
-use Rattle.resize_core.proofs.Finishing.{zeros_long, old_or_with, no_table_cleared, no_table_within, no_table_booting, at_gate}
+use Rattle.std.proofs.Common.{◌≡◌, ℕ, ◌*◌, ◌≤◌, ◌∙◌, List, length, arith, inl, inr, replicate}
+use Rattle.disk_base.specs.Image.{with_bytes, HalfWritten}
+use Rattle.disk_base.specs.Stops.{Stops, IsSettled, Adds, Follows}
+use Rattle.disk_base.proofs.Moments.{adds_weaker, follows_settled}
+use Rattle.resize_core.specs.Finished.{HasNoTable}
+use Rattle.resize_core.specs.inside.Phases.{KeepsFirst}
+use Rattle.resize_core.specs.Ready.{Work, IsDone, IsAtGate, CanBeDone}
+use Rattle.resize_core.proofs.Finishing.{zeros_long, old_or_with, no_table_cleared, at_gate}
 
 module _ (work : Work) (source old : List ℕ)
-    (carriable : IsCarriable work.source_sectors work.target_sectors work.boot work.transfers)
+    (carriable : CanBeDone work)
     (long : length old ≡ 512 * work.target_sectors) where
   abbrev Gate : List ℕ → Type 0
   Gate image = IsAtGate work source old image
@@ -28,22 +27,10 @@ module _ (work : Work) (source old : List ℕ)
       ])
       (follows_settled old a b (HalfWritten 0 (replicate 512 0)) settled follows)
 
-  -- while contents are copied
-  pub gate_copied : (cleared : List ℕ) (b c : Stops) → HasNoTable cleared → IsSettled cleared b → Follows (OnlyWithin work.transfers) b c → Adds Gate b c
-  gate_copied cleared b c none settled follows =
-      adds_weaker b c (OnlyWithin work.transfers cleared) Gate
-      (λ image within. inr (inl (no_table_within _ _ _ _ _ _ carriable within none)))
-      (follows_settled cleared b c (OnlyWithin work.transfers) settled follows)
-
-  -- while the boot area is copied
-  pub gate_booted : (cleared contents : List ℕ) (b c d : Stops) → HasNoTable cleared → AreOf cleared b → AreOf contents c → IsSettled cleared b
-      → Follows (OnlyWithin work.transfers) b c → Follows (AgreesOutside (512 * 1) (512 * (work.boot - 1))) c d → Adds Gate c d
-  gate_booted cleared contents b c d none of_cleared of_contents settled copied follows =
-      adds_weaker c d (After (AgreesOutside (512 * 1) (512 * (work.boot - 1))) c.may_leave) Gate
-      (λ image left.
-      let within = now_follows cleared contents b c (OnlyWithin work.transfers) (only_within_here work.transfers cleared) of_cleared of_contents settled copied left.0 left.1 in
-      inr (inl (no_table_booting work.boot left.0 image left.2 (no_table_within _ _ _ _ _ _ carriable within none))))
-      follows
+  -- while all behind sector 0 is written
+  pub gate_filled : (cleared : List ℕ) (b c : Stops) → HasNoTable cleared → IsSettled cleared b → Follows KeepsFirst b c → Adds Gate b c
+  gate_filled cleared b c none settled follows =
+      adds_weaker b c (KeepsFirst cleared) Gate (λ image keeps. inr (inl (keeps.first ∙ none))) (follows_settled cleared b c KeepsFirst settled follows)
 
   -- while the new sector 0 is put
   pub gate_put : (booted : List ℕ) (d e : Stops) → HasNoTable booted → length work.table ≡ 512 → 512 ≤ length booted

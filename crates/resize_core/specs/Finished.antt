@@ -1,19 +1,19 @@
 -- The target when the work is done.
-use Rattle.std.specs.Prelude.{◌≡◌, ℕ, ◌+◌, ◌-◌, ◌<◌, ◌≤◌, List, length, slice_index_or, replicate, All, AllPairs}
+use Rattle.std.specs.Prelude.{◌≡◌, ℕ, ◌+◌, ◌-◌, ◌<◌, ◌≤◌, false, List, length, slice_index_or, replicate, All, AllPairs}
 use Rattle.disk_base.specs.Image.{sector}
 use Rattle.disk_base.specs.declared.device.DeviceFault.{DeviceFault}
 use Rattle.disk_base.specs.declared.device.DeviceFault.TheVariants.{Source, Target}
-use Rattle.resize_core.specs.declared.transfer.Transfer.{Transfer}
-use Rattle.resize_core.specs.Transfers.{IsOutside, IsBetween, WriteApart}
+use Rattle.run_copy.specs.declared.transfer.Transfer.{Transfer}
+use Rattle.run_copy.specs.Copies.{IsOutside, IsBetween, WriteApart, due}
 
 -- for every sector of the target, what it holds: sector 0 the new table, the boot area up to sector `boot` what the
--- source has there, the sectors of each transfer what it copies, and every other sector what the target had
+-- source has there, the sectors of each transfer what is due of it, and every other sector what the target had
 pub record IsFinished (table : List ℕ) (boot : ℕ) (transfers : List Transfer) (source old new : List ℕ) : Type 0 where
   pub same_length : length new ≡ length old
   pub table_is : sector new 0 ≡ table
   pub boot_area : (k : ℕ) → 0 < k → k < boot → sector new k ≡ sector source k
   pub copied : (i : ℕ) (d : Transfer) → i < length transfers → (k : ℕ) → k < (slice_index_or transfers i d).count
-      → sector new ((slice_index_or transfers i d).to + k) ≡ sector source ((slice_index_or transfers i d).from + k)
+      → sector new ((slice_index_or transfers i d).to + k) ≡ due source old (slice_index_or transfers i d) k
   pub others : (k : ℕ) → 0 < k → boot ≤ k
       → ((i : ℕ) (d : Transfer) → i < length transfers → IsOutside (slice_index_or transfers i d) (slice_index_or transfers i d).count k)
       → sector new k ≡ sector old k
@@ -29,7 +29,7 @@ LeavesNoTable image Target = Unit {0}
 
 -- the boot area as a transfer
 abbrev pub boot_transfer : ℕ → Transfer
-boot_transfer boot = record { from = 1; to = 1; count = boot - 1 }
+boot_transfer boot = record { from = 1; to = 1; count = boot - 1; sparse = false }
 
 -- work that can be carried out between disks of so many sectors: the transfers lie inside both, behind the boot area,
 -- and write to different sectors

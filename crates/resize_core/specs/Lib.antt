@@ -1,7 +1,9 @@
+pub mod Copying
 pub mod Finished
 pub mod Parts
 pub mod Placing
 pub mod Ready
 pub mod Same
+pub mod Summary
 pub mod Targets
-pub mod Transfers
+pub mod inside

@@ -13,7 +13,7 @@ use Rattle.mbr_table.specs.Mbr.{Table, mbr_sector_of}
 use Rattle.mbr_table.specs.Slot.{empty_slot, holds_extended}
 use Rattle.resize_core.specs.declared.refusal.MbrRefused.{MbrRefused}
 use Rattle.resize_core.specs.declared.refusal.MbrRefused.TheVariants.{Overlap, NoPlan, Device, Memory}
-use Rattle.resize_core.specs.declared.transfer.Transfer.{Transfer}
+use Rattle.run_copy.specs.declared.transfer.Transfer.{Transfer}
 use Rattle.resize_core.specs.Parts.{parts_of, LieApart, IsOverlap}
 use Rattle.resize_core.specs.Ready.{Work}
 
@@ -47,7 +47,7 @@ target_slots slots plan = target_slot slots plan 1 ∷ target_slot slots plan 2 
 
 -- the content of a partition: as many sectors as the shorter length has
 abbrev pub transfer_of : List Slot → Placed → Transfer
-transfer_of slots placed = record { from = (source_slot slots placed).start; to = placed.start; count = min (source_slot slots placed).count placed.count }
+transfer_of slots placed = record { from = (source_slot slots placed).start; to = placed.start; count = min (source_slot slots placed).count placed.count; sparse = false }
 
 abbrev pub transfers_of : List Slot → Plan → List Transfer
 transfers_of slots plan = map (transfer_of slots) plan.parts

@@ -1,17 +1,17 @@
 //! Carrying out the work, in its order of writes.
-ghost use Rattle.std.specs.Prelude.{◌≡◌, ℕ, ◌-◌, ◌*◌, ◌<◌, ◌≤◌, length, replicate, IsTrue, OnOk, OnErr, IfErr};
+ghost use Rattle.std.specs.Prelude.{◌≡◌, ◌<◌, length, replicate, IsTrue, OnOk, OnErr, IfErr};
+ghost use Rattle.disk_base.specs.Devices.{CausedBy, Used};
 ghost use Rattle.disk_base.specs.Faults.{Rose};
 ghost use Rattle.disk_base.specs.Image.{with_bytes, HalfWritten};
 ghost use Rattle.disk_base.specs.Log.{IsWritable};
-ghost use Rattle.disk_base.specs.Stops.{IsSettled, Adds, Follows, LeavesOnly};
-ghost use Rattle.resize_core.specs.Finished.{IsFinished, LeavesNoTable};
-ghost use Rattle.resize_core.specs.Ready.{IsDone, IsAtGate};
-ghost use Rattle.resize_core.specs.Transfers.{SameAsks, CauseOf, OldOrWith};
+ghost use Rattle.disk_base.specs.Stops.{IsSettled, Adds, Follows};
+ghost use Rattle.resize_core.specs.Finished.{LeavesNoTable};
+ghost use Rattle.resize_core.specs.Ready.{EndsAtGate, Finishes, StopsAtGate};
+ghost use Rattle.resize_core.specs.inside.Phases.{Fills, KeepsFirst, OldOrWith};
 
-use crate::copying::{copy_all, copy_run};
 use crate::ready::Ready;
-use crate::transfer::Transfer;
 use disk_base::{Blocks, DeviceFault, Disk, Failed, SECTOR};
+use run_copy::{copy_all, copy_run};
 
 // Makes sector 0 zeros, and that lasting, so that a stop leaves no table.
 fn clear_table<T: Disk>(target: &mut T) -> Result<(), Failed>
@@ -21,10 +21,7 @@ fn clear_table<T: Disk>(target: &mut T) -> Result<(), Failed>
     ensures half { IsTrue T.tells → OnErr result (OldOrWith 0 (replicate 512 0) (T.image target.old) (T.image target.new)) }
     ensures stops { IsTrue T.tells_stops → Follows (HalfWritten 0 (replicate 512 0)) (T.stops target.old) (T.stops target.new) }
     ensures settled { IsTrue T.tells_stops → OnOk result (IsSettled (T.image target.new) (T.stops target.new)) }
-    ensures asks { IsTrue T.tells → SameAsks (T.log target.old) (T.log target.new) }
-    ensures size { T.size target.new ≡ T.size target.old }
-    ensures mode { T.attached target.new ≡ T.attached target.old }
-    ensures later { T.faults target.old ≤ T.faults target.new }
+    ensures used { Used T.Blocks T.Disk.own target.old target.new }
     ensures cause { OnErr result (Rose (T.faults target.old) (T.faults target.new)) }
 {
     let zeros = [0; SECTOR];
@@ -39,18 +36,38 @@ fn put_table<T: Disk>(target: &mut T, table: &[u8; 512]) -> Result<(), Failed>
     requires writable { IsWritable (T.attached target.old) }
     ensures wrote { IsTrue T.tells → OnOk result (T.image target.new ≡ with_bytes (T.image target.old) 0 table.now) }
     ensures half { IsTrue T.tells → OnErr result (OldOrWith 0 table.now (T.image target.old) (T.image target.new)) }
+    ensures long { length table.now ≡ 512 }
     ensures stops { IsTrue T.tells_stops → Adds (HalfWritten 0 table.now (T.image target.old)) (T.stops target.old) (T.stops target.new) }
     ensures settled { IsTrue T.tells_stops → OnOk result (IsSettled (T.image target.new) (T.stops target.new)) }
-    ensures sector { length table.now ≡ 512 }
-    ensures asks { IsTrue T.tells → SameAsks (T.log target.old) (T.log target.new) }
-    ensures size { T.size target.new ≡ T.size target.old }
-    ensures mode { T.attached target.new ≡ T.attached target.old }
-    ensures later { T.faults target.old ≤ T.faults target.new }
+    ensures used { Used T.Blocks T.Disk.own target.old target.new }
     ensures cause { OnErr result (Rose (T.faults target.old) (T.faults target.new)) }
 {
     target.flush()?;
     target.write(0, table)?;
     target.flush()?;
+    Ok(())
+}
+
+// Writes all that stands behind sector 0: the contents by number, and the boot area.
+fn fill<S: Blocks, T: Disk>(
+    ready: &Ready,
+    source: &mut S,
+    target: &mut T,
+    buffer: &mut [u8],
+) -> Result<(), DeviceFault>
+    requires source { S.size source.old ≡ ready.now.source_sectors }
+    requires target { T.size target.old ≡ ready.now.target_sectors }
+    requires writable { IsWritable (T.attached target.old) }
+    requires room { length buffer.old ≡ 1048576 }
+    ensures read { S.only_read source.old source.new }
+    ensures filled { OnOk result (Fills ready.now S.Blocks source.old T.Blocks target.old target.new) }
+    ensures first { IsTrue T.tells → KeepsFirst (T.image target.old) (T.image target.new) }
+    ensures stops { IsTrue T.tells_stops → Follows KeepsFirst (T.stops target.old) (T.stops target.new) }
+    ensures used { Used T.Blocks T.Disk.own target.old target.new }
+    ensures cause { IfErr result (CausedBy S.Blocks source.old source.new T.Blocks target.old target.new) }
+{
+    copy_all(source, target, ready.transfers(), buffer)?;
+    copy_run(source, target, &ready.boot_area(), buffer)?;
     Ok(())
 }
 
@@ -68,28 +85,20 @@ pub fn carry_out<S: Blocks, T: Disk>(
     requires writable { IsWritable (T.attached target.old) }
     requires room { length buffer.old ≡ 1048576 }
     ensures read { S.only_read source.old source.new }
-    ensures finished { IsTrue S.tells → IsTrue T.tells → OnOk result (IsDone ready.now (S.image source.old) (T.image target.old) (T.image target.new)) }
+    ensures finished { OnOk result (Finishes ready.now S.Blocks source.old T.Blocks target.old target.new) }
     ensures no_table { IsTrue T.tells → IfErr result (LeavesNoTable (T.image target.new)) }
-    ensures gate { IsTrue S.tells → IsTrue T.tells → OnErr result (IsAtGate ready.now (S.image source.old) (T.image target.old) (T.image target.new)) }
+    ensures gate { OnErr result (EndsAtGate ready.now S.Blocks source.old T.Blocks target.old target.new) }
 
     // A stop at any moment leaves the target as it was, without a table, or finished; after Ok it leaves
     // what the target holds.
-    ensures moments { IsTrue S.tells → IsTrue T.tells_stops → IsSettled (T.image target.old) (T.stops target.old) → LeavesOnly (IsAtGate ready.now (S.image source.old) (T.image target.old)) (T.stops target.old) (T.stops target.new) }
+    ensures moments { StopsAtGate ready.now S.Blocks source.old T.Blocks T.Disk.own target.old target.new }
     ensures settled { IsTrue T.tells_stops → OnOk result (IsSettled (T.image target.new) (T.stops target.new)) }
-    ensures asks { IsTrue T.tells → SameAsks (T.log target.old) (T.log target.new) }
-    ensures size { T.size target.new ≡ T.size target.old }
-    ensures mode { T.attached target.new ≡ T.attached target.old }
-    ensures later { T.faults target.old ≤ T.faults target.new }
-    ensures cause { IfErr result (CauseOf (Rose (S.faults source.old) (S.faults source.new)) (Rose (T.faults target.old) (T.faults target.new))) }
+    ensures used { Used T.Blocks T.Disk.own target.old target.new }
+    ensures cause { IfErr result (CausedBy S.Blocks source.old source.new T.Blocks target.old target.new) }
 {
-    let boot_area = Transfer {
-        from: 1,
-        to: 1,
-        count: ready.boot - 1,
-    };
+    let table = ready.table();
     clear_table(target).map_err(|_| DeviceFault::Target)?;
-    copy_all(source, target, ready.transfers.as_slice(), buffer)?;
-    copy_run(source, target, &boot_area, buffer)?;
-    put_table(target, &ready.table).map_err(|_| DeviceFault::Target)?;
+    fill(ready, source, target, buffer)?;
+    put_table(target, table).map_err(|_| DeviceFault::Target)?;
     Ok(())
 }

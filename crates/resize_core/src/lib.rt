@@ -5,23 +5,28 @@
 //! leaves sector 0 of the target as zeros until the rest stands. It takes no memory and answers Ok wherever
 //! no disk failed, and the target is then the finished one of `specs/Finished.antt`.
 //!
-//! It stands on disk_base for disks, on mbr_table for the table and on layout_plan for the plan.
+//! It stands on disk_base for disks, on mbr_table for the table, on layout_plan for the plan and on run_copy
+//! for the copying.
 #![tactic(auto)]
 
 mod carrying;
-mod copying;
+mod job;
+mod judging;
 mod parts;
 mod preparing;
 mod ready;
 mod refusal;
+mod summary;
 mod targets;
-mod transfer;
+mod unready;
+mod writing;
 
 pub use carrying::carry_out;
+pub use job::copy;
 pub use preparing::prepare_mbr;
 pub use ready::Ready;
 pub use refusal::MbrRefused;
-pub use transfer::Transfer;
+pub use run_copy::Transfer;
 
 #[cfg(test)]
 mod tests;

@@ -1,7 +1,9 @@
 //! The work that is ready to be carried out.
 ghost use Rattle.std.specs.Prelude.{◌≡◌};
+ghost use Rattle.resize_core.specs.Finished.{boot_transfer};
+ghost use Rattle.resize_core.specs.Ready.{CanBeDone};
 
-use crate::transfer::Transfer;
+use run_copy::Transfer;
 use layout_plan::Planned;
 use std::marker::Model;
 
@@ -33,5 +35,33 @@ impl Ready {
         ensures { result.now ≡ self.now.plan }
     {
         &self.planned
+    }
+
+    // The contents to copy, by number.
+    pub(crate) fn transfers(&self) -> &[Transfer]
+        ensures transfers { result.now ≡ self.now.transfers }
+        ensures can { CanBeDone self.now }
+    {
+        self.transfers.as_slice()
+    }
+
+    // The boot area.
+    pub(crate) fn boot_area(&self) -> Transfer
+        ensures { result ≡ boot_transfer self.now.boot }
+    {
+        Transfer {
+            from: 1,
+            to: 1,
+            count: self.boot - 1,
+            sparse: false,
+        }
+    }
+
+    // The new sector 0.
+    pub(crate) fn table(&self) -> &[u8; 512]
+        ensures table { result.now ≡ self.now.table }
+        ensures can { CanBeDone self.now }
+    {
+        &self.table
     }
 }

@@ -5,7 +5,7 @@ ghost use Rattle.layout_plan.specs.Plans.{IsInside};
 ghost use Rattle.mbr_table.specs.Slot.{empty_slot};
 ghost use Rattle.resize_core.specs.Targets.{source_slot, placed_slot, extra_slot, spare_slot, target_slot, target_slots, transfer_of, transfers_of, least_start, boot_end, IsNamed};
 
-use crate::transfer::Transfer;
+use run_copy::Transfer;
 use layout_plan::{Part, Placed, Planned};
 use mbr_table::Slot;
 use std::alloc::{AllocError, Global};
@@ -112,6 +112,7 @@ fn transfer(slots: &[Slot; 4], placed: &Placed) -> Transfer
         from: u64::from(slot.start),
         to: start,
         count: u64::from(slot.count).min(count),
+        sparse: false,
     }
 }
 

@@ -1,4 +1,1 @@
 pub mod RunLemmas
-pub mod SourceLemmas
-pub mod VerdictLemmas
-pub mod WorkLemmas

@@ -8,17 +8,13 @@
 #[cfg(test)]
 mod file_tests;
 mod files;
-mod job;
-mod judging;
 mod lines;
 mod report;
 mod run;
-mod stop;
 mod streams;
 #[cfg(test)]
 mod tests;
 mod words;
-mod writing;
 
 use disk_base::Sink;
 use files::FileDisk;

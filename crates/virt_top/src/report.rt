@@ -1,31 +1,16 @@
-//! Telling on standard error why a run stops.
-ghost use Rattle.std.specs.Prelude.{◌≡◌, ◌≢◌, ◌≤◌, IsTrue, IfOk, string_bytes, codes, map, List, ℕ};
+//! Telling on standard error how a run ended.
+ghost use Rattle.std.specs.Prelude.{◌≡◌, ◌+◌, ◌≤◌, ◌++◌, ◌⊎◌, IsTrue, IfOk, length, string_bytes, List, ℕ};
 ghost use Rattle.disk_base.specs.Faults.{Rose};
-ghost use Rattle.virt_top.specs.Lines.{stop_line, IsNotYetLine};
-ghost use Rattle.virt_top.specs.Printing.{Tells};
-ghost use Rattle.virt_top.specs.Stopping.{IsRefusal, IsToldFor};
-ghost use Rattle.virt_top.specs.Verdict.{status_of};
-ghost use Rattle.virt_top.specs.Words.{word_at};
+ghost use Rattle.disk_base.specs.Devices.{Tells};
+ghost use Rattle.run_end.specs.Ending.{IsToldFor};
+ghost use Rattle.virt_top.specs.Lines.{TellsLine, failing_text, refusal_text, tool_text};
 
-use crate::lines::{no_plan_line, source_fault_line};
-use crate::stop::Stop;
-use disk_base::Sink;
+use crate::lines::{no_plan_text, source_text};
+use crate::words::{Tool, tool_text};
+use arrayvec::ArrayString;
+use disk_base::{DeviceFault, Sink};
+use run_end::{End, Failing, Refusal};
 use std::alloc::{AllocError, Global};
-
-/// The status of a stop.
-pub fn status_of(stop: Stop) -> u8
-    ensures { result ≡ status_of stop }
-{
-    match stop {
-        Stop::Source(_) => 2,
-        Stop::NoPlan(_) => 4,
-        Stop::SourceDevice => 5,
-        Stop::TargetDevice => 6,
-        Stop::Memory => 7,
-        Stop::Printing => 8,
-        Stop::NotYet => 9,
-    }
-}
 
 // Writes a line; where standard error fails nothing more can be done.
 fn say<E: Sink>(err: &mut E, line: &[u8])
@@ -34,81 +19,87 @@ fn say<E: Sink>(err: &mut E, line: &[u8])
     let _ = err.write(line);
 }
 
-// Tells a line that took memory, or that there was none.
-fn say_made<E: Sink>(line: Result<String, AllocError>, stop: Stop, err: &mut E) -> Stop
-    requires line { IfOk line (λ text. string_bytes text ≡ stop_line stop) }
-    requires refusal { IsRefusal stop }
-    ensures told { IsToldFor stop result }
-    ensures line { IsTrue E.tells_text → Tells (Rose (E.sink_faults err.old) (E.sink_faults err.new)) (stop_line result) (E.text err.old) (E.text err.new) }
+// A short line, which takes no memory.
+fn short_line(tool: &str, text: &str) -> ArrayString<64>
+    requires { length tool.now + length text.now ≤ 64 }
+    ensures { result.bytes ≡ tool.now ++ text.now }
 {
-    match line {
+    let mut line = ArrayString::new();
+    let _ = line.try_push_str(tool);
+    let _ = line.try_push_str(text);
+    line
+}
+
+// Tells a short line.
+fn say_short<E: Sink>(tool: Tool, text: &str, err: &mut E)
+    requires { length text.now ≤ 32 }
+    ensures { IsTrue E.tells_text → Tells (Rose (E.sink_faults err.old) (E.sink_faults err.new)) (tool_text tool ++ text.now) (E.text err.old) (E.text err.new) }
+{
+    say(err, short_line(tool_text(tool), text).as_bytes());
+}
+
+// The text of a refusal.
+fn refusal_text(alloc: Global, refusal: Refusal) -> Result<String, AllocError>
+    ensures { IfOk result (λ text. string_bytes text ≡ refusal_text refusal) }
+{
+    match refusal {
+        Refusal::NotYet => String::from_str(alloc, ": not yet\n"),
+        Refusal::Source(fault) => source_text(alloc, fault),
+        Refusal::Plan(fault) => no_plan_text(alloc, fault),
+        Refusal::Memory => String::from_str(alloc, ": memory\n"),
+    }
+}
+
+// The text of a failure.
+fn failing_text(failing: Failing) -> &'static str
+    ensures text { result.now ≡ failing_text failing }
+    ensures short { length result.now ≤ 32 }
+{
+    match failing {
+        Failing::Device(DeviceFault::Source) => ": source device\n",
+        Failing::Device(DeviceFault::Target) => ": target device\n",
+        Failing::Printing => ": printing\n",
+    }
+}
+
+// The line of a refusal.
+fn refusal_line(alloc: Global, tool: Tool, refusal: Refusal) -> Result<String, AllocError>
+    ensures { IfOk result (λ text. string_bytes text ≡ tool_text tool ++ refusal_text refusal) }
+{
+    let mut line = String::from_str(alloc, tool_text(tool))?;
+    line.push_str(refusal_text(alloc, refusal)?.as_str())?;
+    Ok(line)
+}
+
+// Tells a refusal, and gives what was told: want of memory where its line took more than there was.
+fn report_refusal<E: Sink>(alloc: Global, tool: Tool, refusal: Refusal, err: &mut E) -> Refusal
+    ensures told { (result ≡ refusal) ⊎ (result ≡ Refusal.Memory) }
+    ensures line { IsTrue E.tells_text → Tells (Rose (E.sink_faults err.old) (E.sink_faults err.new)) (tool_text tool ++ refusal_text result) (E.text err.old) (E.text err.new) }
+{
+    match refusal_line(alloc, tool, refusal) {
         Ok(line) => {
             say(err, line.as_bytes());
-            stop
+            refusal
         }
         Err(_) => {
-            say(err, b"virt-resize: memory\n");
-            Stop::Memory
+            say_short(tool, ": memory\n", err);
+            Refusal::Memory
         }
     }
 }
 
-/// Tells why a job stopped, and gives the stop that was told: want of memory where the line of a refusal
-/// took more than there was.
-pub fn report<E: Sink>(alloc: Global, stop: Stop, err: &mut E) -> Stop
-    ensures told { IsToldFor stop result }
-    ensures line { IsTrue E.tells_text → Tells (Rose (E.sink_faults err.old) (E.sink_faults err.new)) (stop_line result) (E.text err.old) (E.text err.new) }
+/// Tells how a run ended, and gives what was told: want of memory where the line of a refusal took more than
+/// there was. Nothing is told of what is done.
+pub fn report<E: Sink>(alloc: Global, tool: Tool, end: End, err: &mut E) -> End
+    ensures told { IsToldFor end result }
+    ensures line { IsTrue E.tells_text → TellsLine tool (Rose (E.sink_faults err.old) (E.sink_faults err.new)) (E.text err.old) (E.text err.new) result }
 {
-    match stop {
-        Stop::Source(fault) => say_made(source_fault_line(alloc, fault), stop, err),
-        Stop::NoPlan(fault) => say_made(no_plan_line(alloc, fault), stop, err),
-        Stop::SourceDevice => {
-            say(err, b"virt-resize: source device\n");
-            stop
-        }
-        Stop::TargetDevice => {
-            say(err, b"virt-resize: target device\n");
-            stop
-        }
-        Stop::Memory => {
-            say(err, b"virt-resize: memory\n");
-            stop
-        }
-        Stop::Printing => {
-            say(err, b"virt-resize: printing\n");
-            stop
-        }
-        Stop::NotYet => {
-            say(err, b"virt-resize: not yet\n");
-            stop
+    match end {
+        End::Done => end,
+        End::Refused(refusal) => End::Refused(report_refusal(alloc, tool, refusal, err)),
+        End::Failed(failing) => {
+            say_short(tool, failing_text(failing), err);
+            end
         }
     }
-}
-
-// The line for words that are no job.
-fn not_yet_line(tool: &str) -> &'static [u8]
-    ensures { IsNotYetLine tool.now result.now }
-{
-    match tool {
-        "virt-resize" => b"virt-resize: not yet\n",
-        "virt-sparsify" => b"virt-sparsify: not yet\n",
-        _ => b"virt: not yet\n",
-    }
-}
-
-// The first word, or nothing.
-fn first_word(words: &[String]) -> &str
-    ensures { result.now ≡ word_at (map string_bytes words.now) 0 }
-{
-    if words.is_empty() {
-        return "";
-    }
-    words[0].as_str()
-}
-
-/// Tells that the words are not served yet.
-pub fn report_words<E: Sink>(words: &[String], err: &mut E)
-    ensures { IsTrue E.tells_text → (line : List ℕ) × IsNotYetLine (word_at (map string_bytes words.now) 0) line × Tells (Rose (E.sink_faults err.old) (E.sink_faults err.new)) line (E.text err.old) (E.text err.new) }
-{
-    say(err, not_yet_line(first_word(words)));
 }

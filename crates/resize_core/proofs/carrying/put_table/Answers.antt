@@ -3,7 +3,7 @@ use Rattle.std.proofs.Common.{rules, ◌≡◌, ℕ, ◌≤◌, List, length, ar
 use Rattle.disk_base.specs.Image.{HalfWritten}
 use Rattle.disk_base.specs.Stops.{Adds, adds_on}
 use Rattle.disk_base.proofs.Moments.{adds_nothing, follows_settled}
-use Rattle.resize_core.specs.Transfers.{OldOrWith}
+use Rattle.resize_core.specs.inside.Phases.{OldOrWith}
 use Rattle.resize_core.proofs.Finishing.{old_or_with, on_err}
 use Rattle.resize_core.proofs.carrying.put_table.Goals as goal
 

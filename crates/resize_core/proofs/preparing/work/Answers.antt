@@ -3,7 +3,7 @@ use Rattle.std.proofs.Common.{◌≡◌, ℕ, List, refl, ◌∙◌, sym, ap, su
 use Rattle.layout_plan.specs.declared.part.Part.{Part}
 use Rattle.mbr_table.specs.declared.slot.Slot.{Slot}
 use Rattle.mbr_table.specs.Mbr.{mbr_sector_of}
-use Rattle.resize_core.specs.declared.transfer.Transfer.{Transfer}
+use Rattle.run_copy.specs.declared.transfer.Transfer.{Transfer}
 use Rattle.resize_core.specs.Finished.{IsCarriable}
 use Rattle.resize_core.specs.Parts.{parts_of}
 use Rattle.resize_core.specs.Targets.{boot_end, target_slots, transfers_of}

@@ -1,0 +1,78 @@
+//! How a run ends.
+ghost use Rattle.std.specs.Prelude.{◌≡◌};
+ghost use Rattle.run_end.specs.Ending.{refusal_status, status_of};
+
+use disk_base::DeviceFault;
+use layout_plan::NoPlan;
+
+/// Why a disk is no source.
+#[derive(Clone, Copy, Debug, PartialEq, Eq)]
+pub enum SourceFault {
+    /// It has more than 2^31 sectors.
+    TooLarge { sectors: u64 },
+    /// It has no sector, or sector 0 doesn't end with 55 AA.
+    NoSignature,
+    /// That slot, counted from 1, is the first bad one.
+    Entry { number: u32 },
+    /// These are the first two slots that share a sector.
+    Overlap { a: u32, b: u32 },
+}
+
+/// Why nothing was written.
+#[derive(Clone, Copy, Debug, PartialEq, Eq)]
+pub enum Refusal {
+    /// What is asked for isn't served yet.
+    NotYet,
+    /// The source isn't valid.
+    Source(SourceFault),
+    /// There is no plan.
+    Plan(NoPlan),
+    /// Memory was refused.
+    Memory,
+}
+
+/// What failed under a job.
+#[derive(Clone, Copy, Debug, PartialEq, Eq)]
+pub enum Failing {
+    /// A disk.
+    Device(DeviceFault),
+    /// Standard output.
+    Printing,
+}
+
+/// How a run ended.
+#[derive(Clone, Copy, Debug, PartialEq, Eq)]
+pub enum End {
+    /// The work is done.
+    Done,
+    /// Nothing was written.
+    Refused(Refusal),
+    /// Something failed.
+    Failed(Failing),
+}
+
+fn refusal_status(refusal: Refusal) -> u8
+    ensures { result ≡ refusal_status refusal }
+{
+    match refusal {
+        Refusal::Source(_) => 2,
+        Refusal::Plan(_) => 4,
+        Refusal::Memory => 7,
+        Refusal::NotYet => 9,
+    }
+}
+
+/// The status of an end: 0 where the work is done, 2 for a source that isn't valid, 4 where there is no plan,
+/// 5 and 6 for a source or target that failed, 7 for want of memory, 8 for standard output that failed, and 9
+/// for what isn't served yet.
+pub fn status_of(end: End) -> u8
+    ensures { result ≡ status_of end }
+{
+    match end {
+        End::Done => 0,
+        End::Refused(refusal) => refusal_status(refusal),
+        End::Failed(Failing::Device(DeviceFault::Source)) => 5,
+        End::Failed(Failing::Device(DeviceFault::Target)) => 6,
+        End::Failed(Failing::Printing) => 8,
+    }
+}
