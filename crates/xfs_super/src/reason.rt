@@ -1,6 +1,9 @@
 //! Why a volume isn't valid.
-ghost use Rattle.std.specs.Prelude.{Some};
+ghost use Rattle.std.specs.Prelude.{◌≡◌};
+ghost use Rattle.xfs_super.specs.declared.reason.CheckFault.TheVariants as faults;
 
+use disk_base::Failed;
+use std::alloc::{AllocError, AllocFailed};
 use std::error::Error;
 use std::fmt;
 
@@ -112,3 +115,35 @@ impl fmt::Display for CheckFault {
 }
 
 impl Error for CheckFault {}
+
+impl From<Reason> for CheckFault {
+    ghost from_gives = { λ reason fault. fault ≡ faults.Bad reason };
+
+    fn from(reason: Reason) -> CheckFault {
+        CheckFault::Bad(reason)
+    }
+}
+
+impl From<Failed> for CheckFault {
+    ghost from_gives = { λ _ fault. fault ≡ faults.Device };
+
+    fn from(_failed: Failed) -> CheckFault {
+        CheckFault::Device
+    }
+}
+
+impl From<AllocError> for CheckFault {
+    ghost from_gives = { λ _ fault. fault ≡ faults.Memory };
+
+    fn from(_refused: AllocError) -> CheckFault {
+        CheckFault::Memory
+    }
+}
+
+impl<T: Drop> From<AllocFailed<T>> for CheckFault {
+    ghost from_gives = { λ _ fault. fault ≡ faults.Memory };
+
+    fn from(_refused: AllocFailed<T>) -> CheckFault {
+        CheckFault::Memory
+    }
+}
