@@ -4,3 +4,4 @@ pub mod Reasons
 pub mod Agreements
 pub mod Passing
 pub mod Placed
+pub mod Lying

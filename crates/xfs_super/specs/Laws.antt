@@ -1,9 +1,9 @@
 -- A part of the metadata is sound exactly where no reason speaks against it.
-use Rattle.std.specs.Prelude.{◌≡◌, ℕ, ◌*◌, ◌≤◌, Bool, true, List}
+use Rattle.std.specs.Prelude.{◌≡◌, ℕ, ◌+◌, ◌*◌, ◌/◌, ◌%◌, ◌<◌, ◌≤◌, Bool, true, List}
 use Rattle.xfs_super.specs.Superblock.{SpeaksAgainst, IsSuperblock}
 use Rattle.xfs_super.specs.Headers.{SpeaksAgainstHeader, PassesAsHeader}
 use Rattle.disk_base.specs.Image.{bytes_at}
-use Rattle.xfs_super.specs.Geometry.{Geometry, is_sector_size, header_sector, header_seen, are_groups, is_log_place, AreGroups, IsLogPlace}
+use Rattle.xfs_super.specs.Geometry.{Geometry, is_sector_size, header_sector, header_seen, blocks_in_group, are_groups, is_log_place, AreGroups, IsLogPlace}
 use Rattle.xfs_super.specs.Agreement.{block}
 use Rattle.xfs_super.specs.declared.reason.Reason.{Reason}
 
@@ -29,3 +29,15 @@ pub record FactsAreTests : Type 0 where
   pub groups_back : (dblocks agblocks agcount agblklog : ℕ) → are_groups dblocks agblocks agcount agblklog ≡ true → AreGroups dblocks agblocks agcount agblklog
   pub log : (g : Geometry) → IsLogPlace g.logstart g.logblocks g.dblocks g.agblocks g.agcount g.agblklog → is_log_place g ≡ true
   pub log_back : (g : Geometry) → is_log_place g ≡ true → IsLogPlace g.logstart g.logblocks g.dblocks g.agblocks g.agcount g.agblklog
+
+-- each group lies inside the volume and has at least 64 blocks, and each block of the volume is one of a group
+pub record GroupsCover (dblocks agblocks agcount : ℕ) : Type 0 where
+  pub some : (group : ℕ) → group < agcount → 64 ≤ blocks_in_group dblocks agblocks group
+  pub inside : (group : ℕ) → group < agcount → group * agblocks + blocks_in_group dblocks agblocks group ≤ dblocks
+  pub whole : (group : ℕ) → group + 1 < agcount → blocks_in_group dblocks agblocks group ≡ agblocks
+  pub all : (n : ℕ) → n < dblocks → (n / agblocks < agcount) × (n % agblocks < blocks_in_group dblocks agblocks (n / agblocks))
+
+abbrev pub GroupsAreTheVolume : Type 0
+GroupsAreTheVolume =
+    (dblocks agblocks agcount agblklog : ℕ)
+    → AreGroups dblocks agblocks agcount agblklog → GroupsCover dblocks agblocks agcount

@@ -1,6 +1,6 @@
 //! What holds of the definitions.
 ghost use Rattle.xfs_super.specs.Agreement.{FreeIsElsewhere, DiffersInBlocks};
-ghost use Rattle.xfs_super.specs.Laws.{NoReasonSpeaks, NoReasonIsLeft, HeadersStandInBlocks, FactsAreTests};
+ghost use Rattle.xfs_super.specs.Laws.{NoReasonSpeaks, NoReasonIsLeft, HeadersStandInBlocks, FactsAreTests, GroupsAreTheVolume};
 
 /// The law that a superblock or a header is sound exactly where no reason speaks against it. A call does
 /// nothing.
@@ -25,4 +25,10 @@ pub fn headers_stand_in_blocks()
 /// say. A call does nothing.
 pub fn facts_are_tests()
     ensures { FactsAreTests }
+{}
+
+/// The law that the groups of a volume are the volume: each lies inside it and has room for its headers, and
+/// each block is one of a group. A call does nothing.
+pub fn groups_are_the_volume()
+    ensures { GroupsAreTheVolume }
 {}

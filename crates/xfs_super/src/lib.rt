@@ -29,7 +29,8 @@ pub use agfl::{agfl_entry, agfl_of, used_entry, used_of};
 pub use agi::{Agi, agi_of};
 pub use geometry::Super;
 pub use laws::{
-    facts_are_tests, free_is_elsewhere, headers_stand_in_blocks, sound_without_a_reason,
+    facts_are_tests, free_is_elsewhere, groups_are_the_volume, headers_stand_in_blocks,
+    sound_without_a_reason,
 };
 pub use reason::{CheckFault, Reason};
 pub use superblock::super_of;
