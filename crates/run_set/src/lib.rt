@@ -1,25 +1,30 @@
-// A set of numbers, kept as its runs: sorted, disjoint, and joined where they touch.
+// Sets of numbers: as runs, sorted, disjoint, and joined where they touch; or with a bit for each
+// number below a bound. And the test whether bytes are all zero.
 //
 // It is for whoever claims numbers piece by piece, as blocks of a file system, and wants to know
 // at once where two claims meet, and for answers that are sets of numbers, as the free sectors of
 // a disk.
 //
-// It promises, exactly: which numbers a set has after each call, the least number at which an
-// `add` meets what is there, that a refused `add` changes nothing, and that the runs rise, lie
-// apart and don't touch. Want of memory is the one fault that no promise speaks of.
+// It promises, exactly: which numbers a set has after each call, whether a number is new to it or
+// the least number at which an `add` meets what is there, that a refused `add` changes nothing, and
+// that the runs rise, lie apart and don't touch. Want of memory is the one fault that no promise
+// speaks of, and only making a set of bits, adding runs and taking them away ask for memory.
 //
 // It stands on the standard library, and on thiserror for the texts of its faults.
 #![tactic(auto)]
 
+mod bits;
 mod cut;
 mod fault;
 mod join;
 mod run;
+mod zero;
 
 ghost use Rattle.std.specs.Prelude.{◌≡◌, ◌+◌, ◌^◌, ◌<◌, ◌≤◌, ◌↔◌, ◌⊎◌, ℕ, [], All, AllPairs, IsTrue, OnOk, OnErr, IfOk, IfErr, length, sum_by};
 ghost use Rattle.std.specs.List.{HoldsAt};
 ghost use Rattle.run_set.specs.Runs.{IsWithin, IsRun, EndsBelow, Holds, HasFault, IsFree, AreRuns};
 
+pub use bits::Bits;
 use cut::cut;
 pub use fault::RunFault;
 use join::{join, replace};
@@ -27,6 +32,7 @@ pub use run::Run;
 use run::place;
 use std::alloc::{AllocError, Global};
 use std::marker::Model;
+pub use zero::all_zero;
 
 /// A set of numbers below 2⁶³.
 #[derive(Drop)]
@@ -136,13 +142,6 @@ fn total_of(runs: &[Run]) -> u64
     ensures { result ≡ sum_by (λ run. run.count) runs.now }
 {
     runs.iter().map(|run| run.count).sum()
-}
-
-/// Whether each byte is zero.
-pub fn all_zero(bytes: &[u8]) -> bool
-    ensures { IsTrue result ↔ All (λ byte. byte ≡ 0) bytes.now }
-{
-    bytes.iter().all(|byte| *byte == 0)
 }
 
 #[cfg(test)]

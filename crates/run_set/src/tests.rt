@@ -1,4 +1,4 @@
-use crate::{RunFault, Runs, all_zero};
+use crate::{Bits, RunFault, Runs, all_zero};
 use std::alloc::Global;
 use std::process::Abort;
 
@@ -127,5 +127,28 @@ fn tells_faults_and_zeros(rt: HostRuntime) {
         (&[1, 0][..], false),
     ] {
         assert_eq!(rt; all_zero(bytes), zero);
+    }
+}
+
+// A number is there from the first time on that it is taken.
+#[test]
+fn takes_a_number_once(rt: HostRuntime) {
+    let mut set = Bits::new(rt.alloc(), 10).expect(&rt, "memory");
+    let answers = [set.take(9), set.take(9), set.take(3), set.take(9)];
+    assert_eq!(rt; answers, [true, false, true, false]);
+    let held = [set.has(0), set.has(2), set.has(3), set.has(8), set.has(9)];
+    assert_eq!(rt; held, [false, false, true, false, true]);
+}
+
+// One byte that isn't zero is seen at each place, whatever the length.
+#[test]
+fn sees_a_byte_at_each_place(rt: HostRuntime) {
+    let mut bytes = [0; 200];
+    for len in 0..200 {
+        assert!(rt; all_zero(&bytes[..len]), "of {len}");
+        bytes[len] = 128;
+        assert!(rt; !all_zero(&bytes[..len + 1]), "of {len} and one");
+        assert!(rt; all_zero(&bytes[..len]), "before {len}");
+        bytes[len] = 0;
     }
 }

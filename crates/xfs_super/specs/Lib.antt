@@ -1,0 +1,8 @@
+pub mod Geometry
+pub mod Super
+pub mod Superblock
+pub mod Headers
+pub mod Agreement
+pub mod Laws
+pub mod Text
+pub mod inside
