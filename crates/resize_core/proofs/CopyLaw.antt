@@ -1,6 +1,6 @@
 -- At most one status is due of a copy: each refusal stands where the judging stops.
 use Rattle.std.proofs.Common.{◌≡◌, ℕ, ◌-◌, ◌<◌, ◌≤◌, List, [], arith, ◌∙◌, sym, subst, inl, inr, refl, suc, zero, Option, None, Some}
-use Rattle.disk_base.specs.Image.{sector}
+use Rattle.disk_base.specs.Image.{sector, sectors_of}
 use Rattle.layout_plan.specs.declared.fault.NoPlan.{NoPlan}
 use Rattle.layout_plan.specs.declared.fault.NoPlan.TheVariants.{TooSmall, TooLarge as PlanTooLarge, NoSuchPart, NamedTwice, Extended as NamedExtended, Empty, WouldCut, DoesNotFit, NoSurplus, NoDeficit, Memory as TooLittleMemory}
 use Rattle.layout_plan.specs.declared.part.Kind.TheVariants.{Mbr}
@@ -8,7 +8,8 @@ use Rattle.layout_plan.specs.declared.part.Part.{Part}
 use Rattle.layout_plan.specs.Plans.{IsPlan, Plan}
 use Rattle.layout_plan.proofs.Unique.{only_memory}
 use Rattle.mbr_table.specs.declared.slot.Slot.{Slot}
-use Rattle.mbr_table.specs.Mbr.{IsFirstBad, HasSignature, Table, slots_of}
+use Rattle.mbr_table.specs.Mbr.{IsFirstBad, Table, slots_of}
+use Rattle.mbr_table.specs.Signature.{HasSignature}
 use Rattle.mbr_table.specs.Slot.{IsBadEntry}
 use Rattle.resize_core.specs.declared.refusal.MbrRefused.TheVariants.{NoPlan as Refused}
 use Rattle.resize_core.specs.Parts.{IsOverlap, LieApart, parts_of}
@@ -17,15 +18,17 @@ use Rattle.run_end.specs.declared.end.Refusal.{Refusal}
 use Rattle.run_end.specs.declared.end.Refusal.TheVariants.{NotYet, Source, Plan as Unplanned, Memory}
 use Rattle.run_end.specs.declared.end.SourceFault.{SourceFault}
 use Rattle.run_end.specs.declared.end.SourceFault.TheVariants.{TooLarge, NoSignature, Entry, Overlap}
-use Rattle.resize_core.specs.Copying.{HasNoPlanFor, HasWork, IsNoSource, IsOwnTable, IsRuled, IsServedTable, IsSmall, IsUnserved, copy_of}
-use Rattle.disk_base.specs.Image.{sectors_of}
-use Rattle.disk_base.specs.Image.{sectors_of}
+use Rattle.resize_core.specs.Copying.{HasNoPlanFor, HasWork, IsNoSource, IsOwnSector, IsRuled, IsServedTable, IsSmall, IsUnserved, copy_of}
 use Rattle.run_end.specs.Ending.{Due, IsLawful, due_status}
 use Rattle.run_end.proofs.Steps.{StopsAt, by_steps}
 
 -- two tables of one disk have the same slots
-same_slots : (image : List ℕ) (one other : Table) → IsOwnTable image one → IsOwnTable image other → one.slots ≡ other.slots
-same_slots image one other a b = a.is_table.slots ∙ sym b.is_table.slots
+same_slots : (image : List ℕ) (one other : Table) → IsOwnSector image one → IsOwnSector image other → one.slots ≡ other.slots
+same_slots image one other a b = a.in_sector.slots ∙ sym b.in_sector.slots
+
+-- what sector 0 spells of a table that is served
+spelled : (image : List ℕ) (table : Table) → IsServedTable image table → IsOwnSector image table
+spelled image table served = record { small = served.own.small; own = served.own.own; in_sector = served.own.is_table.in_sector }
 
 -- parts with a plan have no reason against it
 no_plan_of_planned : (sectors : ℕ) (parts : List Part) (fault : NoPlan) (plan : Plan) → IsPlan Mbr parts [] plain_layout sectors plan
@@ -57,7 +60,7 @@ Passed source target zero = Unit {0}
 Passed source target (suc zero) = IsSmall source
 Passed source target (suc (suc zero)) = IsSigned source
 Passed source target (suc (suc (suc zero))) = IsSigned source × (IsRuled (sectors_of source) source → ⊥)
-Passed source target (suc (suc (suc (suc zero)))) = (table : Table) × IsOwnTable source table
+Passed source target (suc (suc (suc (suc zero)))) = (table : Table) × IsOwnSector source table
 Passed source target (suc (suc (suc (suc (suc zero))))) = (table : Table) × IsServedTable source table
 Passed source target (suc (suc (suc (suc (suc (suc zero)))))) = (table : Table) × IsApart source table
 Passed source target (suc (suc (suc (suc (suc (suc (suc zero))))))) = HasWork source target
@@ -77,8 +80,8 @@ back : (source target : List ℕ) (k : ℕ) → Passed source target (suc k) →
 back source target zero passed = tt
 back source target (suc zero) passed = passed.0
 back source target (suc (suc zero)) passed = passed.0
-back source target (suc (suc (suc zero))) passed = let own : IsOwnTable source passed.0 = passed.1 in ((own.small, own.is_table.some, own.is_table.signature), own.own)
-back source target (suc (suc (suc (suc zero)))) passed = let served : IsServedTable source passed.0 = passed.1 in (passed.0, served.own)
+back source target (suc (suc (suc zero))) passed = let own : IsOwnSector source passed.0 = passed.1 in ((own.small, own.in_sector.some, own.in_sector.signature), own.own)
+back source target (suc (suc (suc (suc zero)))) passed = let served : IsServedTable source passed.0 = passed.1 in (passed.0, spelled source passed.0 served)
 back source target (suc (suc (suc (suc (suc zero))))) passed = let apart : IsApart source passed.0 = passed.1 in (passed.0, apart.served)
 back source target (suc (suc (suc (suc (suc (suc zero)))))) passed = (passed.table, record { served = passed.is_work.served; apart = passed.is_work.apart })
 back source target (suc (suc (suc (suc (suc (suc (suc n))))))) passed = absurd passed
@@ -96,12 +99,12 @@ source_stops source target (Entry number) none = record {
   stage = 3;
   passed = ((none.0, none.2.0, none.2.1), none.1);
   ends = λ has.
-      let own : IsOwnTable source has.0 = has.1 in
+      let own : IsOwnSector source has.0 = has.1 in
       let first : IsFirstBad (sectors_of source) (slots_of (sector source 0)) number = none.2.2 in
       let from_one : 1 ≤ number = first.counted.0 in
       let to_four : number ≤ 4 = first.counted.1 in
       let Bad : List Slot → Type 0 = λ slots. IsBadEntry (sectors_of source) slots (number - 1) in
-      own.is_table.sound.none_bad (number - 1) (omega arith) (subst Bad (sym own.is_table.slots) first.bad);
+      own.in_sector.sound.none_bad (number - 1) (omega arith) (subst Bad (sym own.in_sector.slots) first.bad);
   is_status = refl;
 }
 source_stops source target (Overlap a b) none = record {
@@ -112,7 +115,7 @@ source_stops source target (Overlap a b) none = record {
       let served : IsServedTable source none.0 = none.1 in
       let overlap : IsOverlap none.0.slots a b = none.2 in
       let Apart : List Slot → Type 0 = λ slots. LieApart slots in
-      subst Apart (same_slots source has.0 none.0 apart.served.own served.own) apart.apart (a - 1) (b - 1) overlap.pair.order overlap.pair.within overlap.pair.meet;
+      subst Apart (same_slots source has.0 none.0 (spelled source has.0 apart.served) (spelled source none.0 served)) apart.apart (a - 1) (b - 1) overlap.pair.order overlap.pair.within overlap.pair.meet;
   is_status = refl;
 }
 
@@ -125,7 +128,7 @@ unserved_stops source target unserved = elim unserved [
     ends = λ has.
         let served : IsServedTable source has.0 = has.1 in
         let Plain : List Slot → Type 0 = λ slots. HasNoExtended slots in
-        extended.extended (subst Plain (same_slots source has.0 extended.table served.own extended.own) served.plain);
+        extended.extended (subst Plain (same_slots source has.0 extended.table (spelled source has.0 served) extended.own) served.plain);
     is_status = refl;
   }
 ]
@@ -139,7 +142,7 @@ plan_stops source target fault none =
       ends = λ has.
           let None : List Slot → Type 0 = λ slots. HasNoPlanOf (sectors_of target) (parts_of slots) (Refused fault) in
           no_plan_of_planned (sectors_of target) (parts_of has.table.slots) fault has.work.plan has.is_work.ready.plan
-          (subst None (same_slots source none.table has.table none.served.own has.is_work.served.own) refused.1);
+          (subst None (same_slots source none.table has.table (spelled source none.table none.served) (spelled source has.table has.is_work.served)) refused.1);
       is_status = refl;
     }
 

@@ -13,7 +13,7 @@ use Rattle.layout_plan.specs.declared.part.Placed.{Placed}
 use Rattle.layout_plan.specs.declared.part.Fate.TheVariants.{Kept}
 use Rattle.layout_plan.specs.Plans.{Plan, IsExtra, IsBehind, IsInside, is_taken}
 use Rattle.mbr_table.specs.declared.slot.Slot.{Slot}
-use Rattle.mbr_table.specs.Mbr.{Table, IsSound, IsSectorTable, slots_of, mbr_sector_of, table_of}
+use Rattle.mbr_table.specs.Mbr.{Table, IsMbrTable, IsSound, IsSectorTable, slots_of, mbr_sector_of, table_of}
 use Rattle.mbr_table.specs.Slot.{empty_slot, is_used, is_extended, holds_extended, end_of, is_bad, kept}
 use Rattle.mbr_table.proofs.Tables.{same_slots, table_on_disk, table_written}
 use Rattle.run_copy.specs.declared.transfer.Transfer.{Transfer}
@@ -45,7 +45,7 @@ found_all P p (x ∷ xs) all =
     ]
 
 -- where none passes, none is found
-none_found : {X : Type 0} (p : X → Bool) (xs : List X) → list_any p xs ≡ false → find p xs ≡ None
+pub none_found : {X : Type 0} (p : X → Bool) (xs : List X) → list_any p xs ≡ false → find p xs ≡ None
 none_found p [] none = refl
 none_found p (x ∷ xs) none =
     elim (p x) as (λ b. (b || list_any p xs) ≡ false → cond b (Some x) (find p xs) ≡ None) [
@@ -68,6 +68,9 @@ at_number f (suc (suc (suc zero))) low high = refl
 at_number f (suc (suc (suc (suc zero)))) low high = refl
 at_number f (suc (suc (suc (suc (suc n))))) low high = absurd (omega arith)
 
+none_of_four : (p : Slot → Bool) (f : ℕ → Slot) → ((number : ℕ) → p (f number) ≡ false) → find p (f 1 ∷ f 2 ∷ f 3 ∷ f 4 ∷ []) ≡ None
+none_of_four p f none = rw (none 1, none 2, none 3, none 4) refl
+
 all_four : (P : Slot → Type 0) (f : ℕ → Slot) → ((number : ℕ) → P (f number)) → (i : ℕ) → i < 4 → P (slice_index_or (f 1 ∷ f 2 ∷ f 3 ∷ f 4 ∷ []) i empty_slot)
 all_four P f each zero h = each 1
 all_four P f each (suc zero) h = each 2
@@ -81,9 +84,10 @@ record IsFit (sectors : ℕ) (slot : Slot) : Type 0 where
   start_fits : slot.start < 2 ^ 32
   count_fits : slot.count < 2 ^ 32
   stays : kept slot ≡ slot
+  plain : holds_extended slot ≡ false
 
 empty_fit : (sectors : ℕ) → IsFit sectors empty_slot
-empty_fit sectors = record { good = λ extended. refl; start_fits = omega arith; count_fits = omega arith; stays = refl }
+empty_fit sectors = record { good = λ extended. refl; start_fits = omega arith; count_fits = omega arith; stays = refl; plain = refl }
 
 not_bad : (sectors : ℕ) (extended : Bool) (slot : Slot) → is_extended slot ≡ false → 1 ≤ slot.start → end_of slot ≤ sectors → is_bad sectors extended slot ≡ false
 not_bad sectors extended slot plain behind inside =
@@ -100,6 +104,7 @@ used_fit sectors slot used plain behind inside few = record {
   start_fits = omega arith;
   count_fits = omega arith;
   stays = ap (λ b. if b then slot else empty_slot) used;
+  plain = ap (λ b. b && is_extended slot) used ∙ plain;
 }
 
 spare_fit : (sectors : ℕ) (extra : Option Placed) (number : ℕ) → IfSome extra (λ one. IsFit sectors (extra_slot one)) → IsFit sectors (spare_slot extra number)
@@ -270,11 +275,12 @@ module _ (source_sectors target_sectors : ℕ) (slots : List Slot) (plan : Plan)
       (eq-eqb (slice_index_or plan.parts has.place nowhere).number number (number_is has.place nowhere within ∙ has.numbered no_part))
 
   module _ (head target : List ℕ) (long : length head ≡ 446) (spelled : sector target 0 ≡ mbr_sector_of head (target_slots slots plan)) where
-    pub table_is : IsSectorTable target_sectors (sector target 0) (table_of head (target_slots slots plan))
+    pub table_is : IsMbrTable target_sectors target (table_of head (target_slots slots plan))
     table_is = table_on_disk target_sectors target (mbr_sector_of head (target_slots slots plan)) (table_of head (target_slots slots plan)) spelled (table_spelled head long)
+        (ap (λ (all : List Slot). find holds_extended all) target_kept ∙ none_of_four holds_extended (target_slot slots plan) (λ number. (slot_fit number).plain)) refl
 
     pub slots_are : slots_of (sector target 0) ≡ target_slots slots plan
-    slots_are = sym table_is.slots ∙ target_kept
+    slots_are = sym table_is.in_sector.slots ∙ target_kept
 
     on_target : (number : ℕ) (slot : Slot) → slot_under number ≡ slot → slot_on target number ≡ slot
     on_target number slot is = ap (λ (all : List Slot). slice_index_or all (number - 1) empty_slot) slots_are ∙ is

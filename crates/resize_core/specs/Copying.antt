@@ -6,7 +6,7 @@ use Rattle.disk_base.specs.declared.device.Mode.TheVariants.{Read, Change}
 use Rattle.disk_base.specs.declared.device.Blocks.{Ghosts as BlocksGhosts}
 use Rattle.disk_base.specs.Image.{sector, sectors_of}
 use Rattle.layout_plan.specs.declared.fault.NoPlan.{NoPlan}
-use Rattle.mbr_table.specs.Mbr.{Table, IsMbrTable, HasMbrFault, IsProtective}
+use Rattle.mbr_table.specs.Mbr.{Table, IsMbrTable, IsSectorTable, HasMbrFault, IsProtective}
 use Rattle.mbr_table.specs.declared.fault.MbrFault.TheVariants.{NoSignature as UnsignedDisk, Entry as BadEntry}
 use Rattle.resize_core.specs.declared.refusal.MbrRefused.TheVariants.{NoPlan as RefusedPlan}
 use Rattle.resize_core.specs.Finished.{HasNoTable}
@@ -35,6 +35,12 @@ pub record IsOtherTable (image : List ℕ) : Type 0 where
   pub small : IsSmall image
   pub ruled : IsRuled (sectors_of image) image
 
+-- a disk whose sector 0 spells a table of its own
+pub record IsOwnSector (image : List ℕ) (table : Table) : Type 0 where
+  pub small : IsSmall image
+  pub own : IsRuled (sectors_of image) image → ⊥
+  pub in_sector : IsSectorTable (sectors_of image) (sector image 0) table
+
 -- a disk that has a table of its own
 pub record IsOwnTable (image : List ℕ) (table : Table) : Type 0 where
   pub small : IsSmall image
@@ -57,7 +63,7 @@ IsNoSource image (Overlap a b) = (table : Table) × IsServedTable image table ×
 -- a disk that isn't served yet: another table rules it, or a slot holds an extended partition
 pub record HasExtended (image : List ℕ) : Type 0 where
   pub table : Table
-  pub own : IsOwnTable image table
+  pub own : IsOwnSector image table
   pub extended : HasNoExtended table.slots → ⊥
 
 abbrev pub IsUnserved : List ℕ → Type 0
