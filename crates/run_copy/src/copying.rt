@@ -9,6 +9,7 @@ ghost use Rattle.run_copy.specs.Copies.{AllCopied, Copied, IsBetween, OnlyIn, On
 
 use crate::transfer::Transfer;
 use disk_base::{Blocks, DeviceFault, Disk, Failed, SECTOR};
+use run_set::all_zero;
 
 /// The bytes of the buffer that a copy takes.
 pub const BUFFER: usize = 1048576;
@@ -16,11 +17,11 @@ pub const BUFFER: usize = 1048576;
 /// The sectors of the buffer, and so of a piece.
 const PIECE: u64 = 2048;
 
-// Whether each byte is zero.
-fn all_zero(bytes: &[u8]) -> bool
-    ensures { result ≡ all_zero bytes.now }
+// Whether each byte of a piece is zero.
+fn is_zero(piece: &[u8]) -> bool
+    ensures { result ≡ all_zero piece.now }
 {
-    bytes.iter().all(|byte| *byte == 0)
+    all_zero(piece)
 }
 
 // Writes a piece to the sectors from `at` on, or leaves it out.
@@ -34,7 +35,7 @@ fn put_piece<T: Disk>(target: &mut T, at: u64, sparse: bool, piece: &[u8]) -> Re
     ensures used { Used T.Blocks T.Disk.own target.old target.new }
     ensures cause { OnErr result (Rose (T.faults target.old) (T.faults target.new)) }
 {
-    if sparse && all_zero(piece) {
+    if sparse && is_zero(piece) {
         return Ok(());
     }
     target.write(at, piece)?;

@@ -4,7 +4,7 @@ use Rattle.std.proofs.lemmas.Bool.{or_cases, eqb-true}
 use Rattle.std.proofs.lemmas.List.{drop-take, take-take, drop-drop}
 use Rattle.disk_base.specs.Image.{bytes_at}
 use Rattle.xfs_super.specs.Geometry.{Geometry, is_sector_size, header_sector, header_seen}
-use Rattle.xfs_super.specs.Agreement.{block}
+use Rattle.block_claims.specs.Agreement.{block}
 
 -- a range of a range
 range_of_range : (image : List ℕ) (from n at m : ℕ) → at + m ≤ n → bytes_at (bytes_at image from n) at m ≡ bytes_at image (from + at) m

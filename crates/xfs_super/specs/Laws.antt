@@ -4,7 +4,7 @@ use Rattle.xfs_super.specs.Superblock.{SpeaksAgainst, IsSuperblock}
 use Rattle.xfs_super.specs.Headers.{SpeaksAgainstHeader, PassesAsHeader}
 use Rattle.disk_base.specs.Image.{bytes_at}
 use Rattle.xfs_super.specs.Geometry.{Geometry, is_sector_size, header_sector, header_seen, blocks_in_group, are_groups, is_log_place, AreGroups, IsLogPlace}
-use Rattle.xfs_super.specs.Agreement.{block}
+use Rattle.block_claims.specs.Agreement.{block}
 use Rattle.xfs_super.specs.declared.reason.Reason.{Reason}
 
 -- against what is sound no reason speaks

@@ -2,7 +2,6 @@ pub mod Geometry
 pub mod Super
 pub mod Superblock
 pub mod Headers
-pub mod Agreement
 pub mod Laws
 pub mod Text
 pub mod inside

@@ -1,5 +1,4 @@
 //! What holds of the definitions.
-ghost use Rattle.xfs_super.specs.Agreement.{FreeIsElsewhere, DiffersInBlocks};
 ghost use Rattle.xfs_super.specs.Laws.{NoReasonSpeaks, NoReasonIsLeft, HeadersStandInBlocks, FactsAreTests, GroupsAreTheVolume};
 
 /// The law that a superblock or a header is sound exactly where no reason speaks against it. A call does
@@ -7,12 +6,6 @@ ghost use Rattle.xfs_super.specs.Laws.{NoReasonSpeaks, NoReasonIsLeft, HeadersSt
 pub fn sound_without_a_reason()
     ensures excluded { NoReasonSpeaks }
     ensures nothing_else { NoReasonIsLeft }
-{}
-
-/// The law that volumes which differ in free blocks alone agree on what is claimed. A call does nothing.
-pub fn free_is_elsewhere()
-    ensures elsewhere { FreeIsElsewhere }
-    ensures images { DiffersInBlocks }
 {}
 
 /// The law that the sector of a header stands in a block of the volume, so that what is seen of a volume by its

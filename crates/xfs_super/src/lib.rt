@@ -8,10 +8,8 @@
 //! its fields, and a reason only where that one does; and a [`Super`] agrees with itself, whoever makes it.
 //! `specs/Superblock.antt` and `specs/Headers.antt` have each field and each rule, after the XFS Algorithms &
 //! Data Structures guide, for file systems of version 5 with blocks of 4096 bytes.
-//! `specs/Agreement.antt` has the words on claimed blocks and on volumes that agree, and `proofs/Agreements.antt`
-//! and `proofs/Passing.antt` the facts about them, which the crates above cite.
 //!
-//! It stands on disk_base, for numbers in bytes and for checksums.
+//! It stands on disk_base, for numbers in bytes and for checksums, and on block_claims for what a block is.
 #![tactic(auto)]
 
 mod agf;
@@ -29,8 +27,7 @@ pub use agfl::{agfl_entry, agfl_of, used_entry, used_of};
 pub use agi::{Agi, agi_of};
 pub use geometry::Super;
 pub use laws::{
-    facts_are_tests, free_is_elsewhere, groups_are_the_volume, headers_stand_in_blocks,
-    sound_without_a_reason,
+    facts_are_tests, groups_are_the_volume, headers_stand_in_blocks, sound_without_a_reason,
 };
 pub use reason::{CheckFault, Reason};
 pub use superblock::super_of;

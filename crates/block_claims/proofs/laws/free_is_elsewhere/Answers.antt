@@ -1,5 +1,5 @@
-use Rattle.xfs_super.proofs.Agreements.{agree_on_claimed, outside_of}
-use Rattle.xfs_super.proofs.laws.free_is_elsewhere.Goals as goal
+use Rattle.block_claims.proofs.Agreements.{agree_on_claimed, outside_of}
+use Rattle.block_claims.proofs.laws.free_is_elsewhere.Goals as goal
 
 pub returns-clause-elsewhere : goal.returns-clause-elsewhere
 returns-clause-elsewhere c = agree_on_claimed

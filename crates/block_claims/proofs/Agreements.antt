@@ -6,7 +6,7 @@ use Rattle.std.proofs.lemmas.Grind.{same_number_lists}
 use Rattle.std.proofs.lemmas.List.Sums.{sum_by-append}
 use Rattle.std.proofs.lemmas.List.Concat.{flat_map-append}
 use Rattle.disk_base.proofs.Images.{length-range, byte_of_range}
-use Rattle.xfs_super.specs.Agreement.{block, times_in, StandApart, AgreeOn, AgreeElsewhere, DiffersIn, Claimed, IsTwice}
+use Rattle.block_claims.specs.Agreement.{block, times_in, StandApart, AgreeOn, AgreeElsewhere, DiffersIn, Claimed, IsTwice}
 
 pub times_in-append : (n : ℕ) (xs ys : List ℕ) → times_in n (xs ++ ys) ≡ times_in n xs + times_in n ys
 times_in-append n xs ys = sum_by-append _ xs ys

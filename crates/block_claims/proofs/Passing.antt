@@ -7,8 +7,8 @@ use Rattle.std.proofs.lemmas.List.{map-append, take_more, take-append-drop}
 use Rattle.std.proofs.Math.Seq.{drop-cons}
 use Rattle.std.proofs.lemmas.List.Concat.{flat_map-append}
 use Rattle.std.proofs.lemmas.List.Folds.{list_all-append, list_any-append}
-use Rattle.xfs_super.specs.Agreement.{Claimed, IsTwice, Passed, SomeFails}
-use Rattle.xfs_super.proofs.Agreements.{times_in-append, claimed_on}
+use Rattle.block_claims.specs.Agreement.{Claimed, IsTwice, Passed, SomeFails}
+use Rattle.block_claims.proofs.Agreements.{times_in-append, claimed_on}
 
 or_middle : (a b c : Bool) → b ≡ true → (a || (b || c)) ≡ true
 or_middle true b c h = refl
