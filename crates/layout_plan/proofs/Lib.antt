@@ -17,3 +17,4 @@ pub mod Sound
 pub mod Same
 pub mod Refused
 pub mod Unique
+pub mod Entries

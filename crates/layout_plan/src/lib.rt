@@ -34,3 +34,5 @@ pub use wish::{Layout, Size, What, Wish};
 
 #[cfg(test)]
 mod tests;
+#[cfg(test)]
+mod wider_tests;
