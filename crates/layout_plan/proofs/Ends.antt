@@ -1,5 +1,5 @@
 -- Where layouts end: at one place alone, and further on the more sectors a part gets.
-use Rattle.std.proofs.Common.{◌≡◌, ℕ, ◌+◌, ◌<◌, ◌≤◌, ◌==◌, Bool, true, false, List, length, map, find, slice_index_or, refl, sym, ◌∙◌, ap, subst, inl, inr, arith, Contains, IsPermutation, Option, Some, None}
+use Rattle.std.proofs.Common.{◌≡◌, ℕ, ◌+◌, ◌<◌, ◌≤◌, true, false, List, length, map, slice_index_or, sym, ◌∙◌, ap, subst, inl, inr, arith, Contains, IsPermutation, Some}
 use Rattle.std.proofs.lemmas.Bool.{cases_eq}
 use Rattle.std.proofs.lemmas.List.{get_or_default, get_or-map, length-map}
 use Rattle.layout_plan.specs.declared.line.Piece.{Piece}
@@ -11,12 +11,12 @@ use Rattle.layout_plan.specs.declared.part.Role.TheVariants.{Slot, Extended, Log
 use Rattle.layout_plan.specs.declared.wish.Layout.{Layout}
 use Rattle.layout_plan.specs.declared.wish.Wish.{Wish}
 use Rattle.layout_plan.specs.Faults.{AreAllowed}
-use Rattle.layout_plan.specs.Layouts.{IsLayout, end_from, last_end, no_piece, piece_at, spot_at}
+use Rattle.layout_plan.specs.Layouts.{IsLayout, end_from, no_piece, piece_at, spot_at}
 use Rattle.layout_plan.specs.Plans.{HasEnd, IsFitting, IsGreatest, IsLaid, IsTooMany, piece_of}
 use Rattle.layout_plan.specs.Roles.{is_extended}
 use Rattle.layout_plan.specs.Source.{IsSource}
 use Rattle.layout_plan.specs.Tables.{floor_of}
-use Rattle.layout_plan.specs.Wishes.{flexible_part, is_flexible_wish, remaining, settled, wanted, wish_of}
+use Rattle.layout_plan.specs.Wishes.{flexible_part, is_flexible_wish, remaining, settled, wish_of}
 use Rattle.layout_plan.proofs.Lines.{AtMost, last_end_none, last_rises}
 use Rattle.layout_plan.proofs.Named.{flexible_is_plain, flexible_stays, found_passes, found_there}
 use Rattle.layout_plan.proofs.Orders.{any_part, one_begin, one_order, some_part}

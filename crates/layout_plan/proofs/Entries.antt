@@ -57,7 +57,7 @@ are_source n parts are few = record {
       let low = are.each i d (omega (arith, are.as_many)) in
       let high = are.each j d (omega (arith, are.as_many)) in
       omega (arith, low.number, high.number);
-  other_starts = λ i j d before within same.
+  other_starts = λ i j d before within _ same.
       let low = are.each i d (omega (arith, are.as_many)) in
       let high = are.each j d (omega (arith, are.as_many)) in
       omega (arith, low.start, high.start, same);

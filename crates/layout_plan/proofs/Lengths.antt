@@ -1,8 +1,7 @@
 -- Each part that is made has a sector at least.
-use Rattle.std.proofs.Common.{◌≡◌, ◌≢◌, ℕ, ◌+◌, ◌<◌, ◌≤◌, ◌==◌, Bool, true, false, List, slice_index_or, refl, sym, ◌∙◌, ap, subst, inl, inr, arith, All, Contains, Option, Some, None}
+use Rattle.std.proofs.Common.{◌≡◌, ◌≢◌, ℕ, ◌≤◌, ◌==◌, true, false, List, refl, subst, inl, inr, arith, Contains, Option, Some, None}
 use Rattle.std.proofs.lemmas.Bool.{cases_Bool, eqb-false}
 use Rattle.std.proofs.lemmas.List.Elements.{All-contains}
-use Rattle.layout_plan.specs.declared.fault.NoPlan.{NoPlan}
 use Rattle.layout_plan.specs.declared.fault.NoPlan.TheVariants.{Empty}
 use Rattle.layout_plan.specs.declared.part.Kind.{Kind}
 use Rattle.layout_plan.specs.declared.part.Part.{Part}

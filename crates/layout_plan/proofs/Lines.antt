@@ -1,5 +1,5 @@
 -- Layouts: that there is one and only one, and that its pieces lie one behind the other.
-use Rattle.std.proofs.Common.{◌≡◌, ◌≢◌, ℕ, zero, suc, ◌+◌, ◌-◌, ◌*◌, ◌^◌, ◌<◌, ◌≤◌, ◌==◌, false, List, [], ◌∷◌, ◌++◌, length, length-append, slice_index_or, refl, sym, ◌∙◌, ap, subst, inl, inr, arith, add-one}
+use Rattle.std.proofs.Common.{◌≡◌, ◌≢◌, ℕ, zero, suc, ◌+◌, ◌-◌, ◌*◌, ◌^◌, ◌<◌, ◌≤◌, false, List, [], ◌∷◌, ◌++◌, length, length-append, refl, sym, ◌∙◌, ap, subst, inl, inr, arith, add-one}
 use Rattle.std.proofs.lemmas.Bool.{cases_eq, ne_eqb}
 use Rattle.std.proofs.lemmas.List.{get_or_default, same_lists}
 use Rattle.std.proofs.lemmas.Grind.{common_steps}
@@ -7,7 +7,7 @@ use Rattle.layout_plan.specs.declared.line.Piece.{Piece}
 use Rattle.layout_plan.specs.declared.line.Spot.{Spot}
 use Rattle.layout_plan.specs.declared.part.Role.{Role}
 use Rattle.layout_plan.specs.declared.part.Role.TheVariants.{Slot, Extended, Logical}
-use Rattle.layout_plan.specs.Layouts.{IsLayout, Stands, StandsFirst, end_from, last_end, no_piece, no_spot, piece_at, spot_at}
+use Rattle.layout_plan.specs.Layouts.{IsLayout, Stands, StandsFirst, end_from, last_end, no_spot, piece_at, spot_at}
 use Rattle.layout_plan.specs.Roles.{is_logical}
 use Rattle.layout_plan.proofs.Spots.{IsPast, first_near, first_past, first_rises, first_sector, one_first, one_stand, some_first, some_stand, stand_near, stand_rises, stands_past}
 
@@ -124,15 +124,14 @@ laid_first align begin pieces some (suc (suc n)) within =
     let old : spot_at spots n ≡ spot_at all n = sym (below_end spots next.0 (n + 1) n as_long (omega arith)) in
     let First : Spot → Type 0 = λ at. StandsFirst begin (piece_at pieces 0).role (piece_at pieces 0).count at in
     let At : Spot → Type 0 = λ at. Stands align (piece_at pieces n).role (spot_at spots n).end (piece_at pieces (n + 1)).role (piece_at pieces (n + 1)).count at in
-    let Here : Spot → Type 0 = λ at. Stands align (piece_at pieces n).role at.end (piece_at pieces (n + 1)).role (piece_at pieces (n + 1)).count (spot_at all (n + 1)) in
-    (
+    let Here : Spot → Type 0 = λ at. Stands align (piece_at pieces n).role at.end (piece_at pieces (n + 1)).role (piece_at pieces (n + 1)).count (spot_at all (n + 1)) in (
       all,
       omega (arith, length-append spots (next.0 ∷ []), long),
       λ _. subst First (sym (below_end spots next.0 (n + 1) 0 as_long (omega arith))) (done.2 (omega arith)),
       λ k h. elim (cases_eq k n) [
         | inl here ↦ let Place : ℕ → Type 0 = λ i. Follows align pieces all i in subst Place (sym here) (subst Here old (subst At there next.1))
         | inr earlier ↦ follows_more align pieces (n + 1) spots next.0 k as_long (omega arith) (done.3 k (omega arith))
-      ]
+      ],
     )
 
 pub one_at_least : (align begin : ℕ) (pieces : List Piece) → 0 < align → (spots : List Spot) × IsLayout align begin pieces spots

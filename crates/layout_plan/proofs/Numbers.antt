@@ -1,25 +1,24 @@
 -- The numbers of the parts on the target: of their roles, and no two the same.
-use Rattle.std.proofs.Common.{◌≡◌, ◌≢◌, ℕ, zero, suc, ◌+◌, ◌-◌, ◌<◌, ◌≤◌, ◌&&◌, nat_lt, not, if◌then◌else◌, Bool, true, false, cond, List, [], ◌∷◌, length, count_by, slice_index_or, refl, sym, ◌∙◌, ap, subst, inl, inr, arith, All, AllPairs, Contains}
-use Rattle.std.proofs.lemmas.Bool.{and_parts, both_ways, cases_Bool, cases_eq, cases_lt, cases_order, lt-ltb, ltb-true, not-true}
+use Rattle.std.proofs.Common.{◌≡◌, ℕ, zero, suc, ◌+◌, ◌<◌, ◌≤◌, ◌&&◌, nat_lt, not, if◌then◌else◌, Bool, true, false, cond, List, [], ◌∷◌, count_by, slice_index_or, refl, sym, ◌∙◌, ap, inl, inr, arith, All, Contains}
+use Rattle.std.proofs.lemmas.Bool.{and_parts, both_ways, cases_Bool, cases_order, lt-ltb, ltb-true, not-true}
 use Rattle.std.proofs.lemmas.List.{get_or_default}
 use Rattle.std.proofs.lemmas.List.Elements.{All-contains}
 use Rattle.std.proofs.lemmas.List.Sums.{sum_by-cons}
 use Rattle.layout_plan.specs.declared.part.Kind.{Kind}
-use Rattle.layout_plan.specs.declared.part.Kind.TheVariants.{Mbr, Gpt}
 use Rattle.layout_plan.specs.declared.part.Part.{Part}
 use Rattle.layout_plan.specs.declared.part.Role.{Role}
 use Rattle.layout_plan.specs.declared.part.Role.TheVariants.{Slot, Extended, Logical}
 use Rattle.layout_plan.specs.declared.wish.Wish.{Wish}
 use Rattle.layout_plan.specs.Roles.{is_logical, same_class}
 use Rattle.layout_plan.specs.Source.{IsPart, IsSource}
-use Rattle.layout_plan.specs.Tables.{HasNumber, first_number, last_number}
+use Rattle.layout_plan.specs.Tables.{HasNumber, first_number}
 use Rattle.layout_plan.specs.Wishes.{is_gone, makes_room, number_of}
 use Rattle.layout_plan.proofs.Turns.{ByNumber}
 
 count_yes : (pass : Part → Bool) (part : Part) (parts : List Part) → pass part ≡ true → count_by pass (part ∷ parts) ≡ count_by pass parts + 1
 count_yes pass part parts passes = sum_by-cons (λ (one : Part). cond (pass one) 1 0) part parts ∙ rw passes (omega arith)
 
-count_no : (pass : Part → Bool) (part : Part) (parts : List Part) → pass part ≡ false → count_by pass (part ∷ parts) ≡ count_by pass parts
+pub count_no : (pass : Part → Bool) (part : Part) (parts : List Part) → pass part ≡ false → count_by pass (part ∷ parts) ≡ count_by pass parts
 count_no pass part parts fails = sum_by-cons (λ (one : Part). cond (pass one) 1 0) part parts ∙ rw fails (omega arith)
 
 -- parts by rising number of which those that pass have numbers from low on, below high, are few

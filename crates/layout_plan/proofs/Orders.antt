@@ -1,5 +1,5 @@
 -- That parts, places and what is made of them stand in one order alone.
-use Rattle.std.proofs.Common.{◌≡◌, ◌≢◌, ℕ, zero, suc, ◌+◌, ◌-◌, ◌<◌, ◌≤◌, ◌⊎◌, true, false, not, List, length, map, slice_index_or, refl, sym, ◌∙◌, ap, subst, inl, inr, arith, AllPairs, IsPermutation, Contains, Option, Some, None}
+use Rattle.std.proofs.Common.{◌≡◌, ◌≢◌, ℕ, zero, suc, ◌+◌, ◌<◌, ◌≤◌, ◌⊎◌, true, false, List, length, map, slice_index_or, refl, sym, ◌∙◌, ap, subst, inl, inr, arith, AllPairs, IsPermutation, Contains, Option, Some, None}
 use Rattle.std.proofs.lemmas.Bool.{cases_Bool, cases_eq, cases_lt, cases_order}
 use Rattle.std.proofs.lemmas.List.{get_or_default, length-map, same_lists}
 use Rattle.std.proofs.lemmas.List.Elements.{All-map, All-contains, Contains-get_or}
@@ -15,7 +15,6 @@ use Rattle.layout_plan.specs.declared.wish.Layout.{Layout}
 use Rattle.layout_plan.specs.declared.wish.Wish.{Wish}
 use Rattle.layout_plan.specs.Layouts.{IsLayout, spot_at}
 use Rattle.layout_plan.specs.Plans.{Begins, ComesBefore, HasLength, IsLeastStart, IsLaid, IsLogicalEnd, StandsAt, ArePlaced, IsLeastFree, IsExtra, IsExtraPart, is_taken, piece_of}
-use Rattle.layout_plan.specs.Roles.{is_logical}
 use Rattle.layout_plan.specs.Tables.{floor_of, most_numbers}
 use Rattle.layout_plan.specs.Wishes.{remaining}
 use Rattle.layout_plan.proofs.Lines.{one_at_most}

@@ -1,5 +1,5 @@
 -- The parts that remain: few, of a valid table, and in their order.
-use Rattle.std.proofs.Common.{◌≡◌, ℕ, zero, suc, ◌+◌, ◌<◌, ◌≤◌, ◌^◌, not, List, [], ◌∷◌, length, slice_index_or, inl, inr, arith, All, AllPairs, Contains, IsPermutation}
+use Rattle.std.proofs.Common.{ℕ, zero, suc, ◌<◌, ◌≤◌, ◌^◌, not, List, [], ◌∷◌, length, slice_index_or, inl, inr, arith, All, AllPairs, IsPermutation}
 use Rattle.std.proofs.lemmas.Bool.{cases_lt}
 use Rattle.std.proofs.lemmas.List.Elements.{All-filter}
 use Rattle.std.proofs.lemmas.List.Kept.{AllPairs-filter}
@@ -12,7 +12,7 @@ use Rattle.layout_plan.specs.declared.part.Role.{Role}
 use Rattle.layout_plan.specs.declared.part.Role.TheVariants.{Slot, Extended, Logical}
 use Rattle.layout_plan.specs.declared.wish.Wish.{Wish}
 use Rattle.layout_plan.specs.Source.{IsPart, IsSource}
-use Rattle.layout_plan.specs.Tables.{HasNumber, first_number, last_number}
+use Rattle.layout_plan.specs.Tables.{first_number, last_number}
 use Rattle.layout_plan.specs.Wishes.{is_gone, remaining}
 use Rattle.layout_plan.proofs.Turns.{ByNumber}
 

@@ -1,7 +1,6 @@
 -- That the partitions of a plan lie apart, the logical ones inside the extended one, behind the table and before the limit.
-use Rattle.std.proofs.Common.{◌≡◌, ◌≢◌, ℕ, ◌+◌, ◌-◌, ◌<◌, ◌≤◌, ◌==◌, ◌⊎◌, if◌then◌else◌, Bool, true, false, not, List, length, map, slice_index_or, refl, sym, ◌∙◌, ap, subst, inl, inr, arith, All, AllPairs, Contains, IsPermutation, Option, Some, None, IfSome}
-use Rattle.std.specs.List.{list_any}
-use Rattle.std.proofs.lemmas.Bool.{both_ways, cases_Bool, cases_eq, cases_lt, cases_order, eq-eqb, ne_eqb}
+use Rattle.std.proofs.Common.{◌≡◌, ◌≢◌, ℕ, ◌+◌, ◌-◌, ◌<◌, ◌≤◌, ◌==◌, if◌then◌else◌, Bool, true, false, not, List, length, map, slice_index_or, refl, sym, ◌∙◌, ap, subst, inl, inr, arith, All, AllPairs, Contains, Option, Some, None, IfSome}
+use Rattle.std.proofs.lemmas.Bool.{both_ways, cases_Bool, cases_eq, cases_order, eq-eqb, ne_eqb, or_left, or_right}
 use Rattle.std.proofs.lemmas.List.{get_or_default, get_or-map, length-map}
 use Rattle.std.proofs.lemmas.List.Elements.{All-contains, Contains-get_or}
 use Rattle.std.proofs.lemmas.List.Folds.{list_any_at}
@@ -20,11 +19,11 @@ use Rattle.layout_plan.specs.declared.wish.What.TheVariants.{Expand, Shrink, Res
 use Rattle.layout_plan.specs.declared.wish.Wish.{Wish}
 use Rattle.layout_plan.specs.Faults.{AreAllowed}
 use Rattle.layout_plan.specs.Layouts.{end_from, last_end, piece_at, spot_at}
-use Rattle.layout_plan.specs.Plans.{Apart, AreFrom, AreNumbered, ArePlaced, ComesBefore, HasLength, IsAround, IsBehind, IsExtra, IsInside, IsLaid, IsLogicalEnd, IsPlaced, Lie, LieAs, StandsAt, extended_start, first_of, is_taken, role_by, role_of, turn}
+use Rattle.layout_plan.specs.Plans.{Apart, AreFrom, AreNumbered, ArePlaced, ComesBefore, HasLength, IsAround, IsBehind, IsExtra, IsInside, IsLaid, IsLogicalEnd, IsPlaced, Lie, LieAs, StandsAt, extended_start, first_of, role_by, role_of, turn}
 use Rattle.layout_plan.specs.Roles.{is_extended, is_logical, same_class}
 use Rattle.layout_plan.specs.Source.{IsPart, IsSource}
 use Rattle.layout_plan.specs.Tables.{HasNumber, floor_of, last_number, most_numbers}
-use Rattle.layout_plan.specs.Wishes.{fate_under, number_of, remaining, settled, wanted, wish_of}
+use Rattle.layout_plan.specs.Wishes.{fate_under, remaining, settled, wanted, wish_of}
 use Rattle.layout_plan.proofs.Lines.{IsInLine, last_end_is, last_end_none}
 use Rattle.layout_plan.proofs.Named.{isnt_gone, plain_logical, was_there}
 use Rattle.layout_plan.proofs.Numbers.{new_number, still_lower}
@@ -247,13 +246,14 @@ module _ (kind : Kind) (parts : List Part) (source : IsSource kind parts) (wishe
       let at_y : (slice_index_or parts y.0 slot).start ≡ slot.start = ap (λ (part : Part). part.start) y.2 in
       let is_outer : slice_index_or parts x.0 slot ≡ outer = get_or_default parts x.0 slot outer x.1 ∙ x.2 in
       let at_x : (slice_index_or parts x.0 slot).start ≡ outer.start = ap (λ (part : Part). part.start) is_outer in
+      let is_extended_x : is_extended (slice_index_or parts x.0 slot).role ≡ true = ap (λ (part : Part). is_extended part.role) is_outer ∙ extended in
       elim (cases_order x.0 y.0) [
         | inl place ↦
             let is : outer ≡ slot = sym is_outer ∙ ap (λ (k : ℕ). slice_index_or parts k slot) place ∙ y.2 in
             both_ways _ not_extended (sym (ap (λ (part : Part). is_extended part.role) is) ∙ extended)
         | inr apart ↦ elim apart [
-          | inl before ↦ source.other_starts x.0 y.0 slot before y.1 (at_x ∙ sym same ∙ sym at_y)
-          | inr after ↦ source.other_starts y.0 x.0 slot after x.1 (at_y ∙ same ∙ sym at_x)
+          | inl before ↦ source.other_starts x.0 y.0 slot before y.1 (or_left _ (is_extended (slice_index_or parts y.0 slot).role) is_extended_x) (at_x ∙ sym same ∙ sym at_y)
+          | inr after ↦ source.other_starts y.0 x.0 slot after x.1 (or_right (is_extended (slice_index_or parts y.0 slot).role) _ is_extended_x) (at_y ∙ same ∙ sym at_x)
         ]
       ]
 

@@ -1,11 +1,11 @@
 -- One partition behind another: it takes sectors behind it, at one place alone, which rises with what is before it.
-use Rattle.std.proofs.Common.{◌≡◌, ◌≢◌, ℕ, ◌+◌, ◌*◌, ◌<◌, ◌≤◌, ◌==◌, Bool, true, false, if◌then◌else◌, refl, sym, ◌∙◌, ap, subst, arith}
+use Rattle.std.proofs.Common.{◌≡◌, ◌≢◌, ℕ, ◌+◌, ◌*◌, ◌<◌, ◌≤◌, ◌==◌, true, false, if◌then◌else◌, refl, sym, ◌∙◌, ap, subst, arith}
 use Rattle.std.proofs.lemmas.Bool.{ne_eqb}
 use Rattle.layout_plan.specs.declared.line.Spot.{Spot}
 use Rattle.layout_plan.specs.declared.part.Role.{Role}
 use Rattle.layout_plan.specs.declared.part.Role.TheVariants.{Slot, Extended, Logical}
 use Rattle.layout_plan.specs.Alignment.{IsNext}
-use Rattle.layout_plan.specs.Layouts.{IsRecordPlace, Stands, StandsBehind, StandsFirst, StandsInside, end_from}
+use Rattle.layout_plan.specs.Layouts.{IsRecordPlace, Stands, StandsBehind, StandsFirst, end_from}
 use Rattle.layout_plan.specs.Roles.{is_logical}
 use Rattle.layout_plan.proofs.Next.{next_rises, next_unique, some_next}
 

@@ -1,11 +1,11 @@
 -- How the parts that remain stand in a line: the extended one before the logical ones, each behind the one before it.
-use Rattle.std.proofs.Common.{◌≡◌, ◌≢◌, ℕ, zero, suc, ◌+◌, ◌-◌, ◌<◌, ◌≤◌, ◌⊎◌, ◌&&◌, ◌==◌, nat_lt, not, if◌then◌else◌, Bool, true, false, List, length, map, find, slice_index_or, refl, sym, ◌∙◌, ap, subst, inl, inr, arith, All, AllPairs, Contains, IsPermutation, Option, Some, None}
+use Rattle.std.proofs.Common.{◌≡◌, ℕ, ◌<◌, ◌≤◌, ◌&&◌, nat_lt, not, true, false, List, length, map, slice_index_or, refl, sym, ◌∙◌, ap, subst, inl, inr, arith, All, Contains, IsPermutation}
 use Rattle.std.specs.List.{list_any}
-use Rattle.std.proofs.lemmas.Bool.{and_parts, both_ways, cases_Bool, cases_eq, cases_order, false_from_ne_true, not-false, not-true, or_parts}
+use Rattle.std.proofs.lemmas.Bool.{and_parts, both_ways, cases_Bool, cases_order, false_from_ne_true, not-false, not-true, or_parts}
 use Rattle.std.proofs.lemmas.List.{get_or_default, get_or-map, length-map}
 use Rattle.std.proofs.lemmas.List.Elements.{All-contains, All-map, Contains-get_or}
 use Rattle.std.proofs.lemmas.List.Folds.{Any-from_list_any, list_any_at}
-use Rattle.std.proofs.lemmas.List.Sorted.{Contains-permutation, IsPermutation-sym, length_permutation}
+use Rattle.std.proofs.lemmas.List.Sorted.{Contains-permutation, IsPermutation-sym}
 use Rattle.layout_plan.specs.declared.line.Piece.{Piece}
 use Rattle.layout_plan.specs.declared.line.Spot.{Spot}
 use Rattle.layout_plan.specs.declared.part.Kind.{Kind}
@@ -25,7 +25,6 @@ use Rattle.layout_plan.specs.Wishes.{is_deleted, is_gone, keeps_logical, remaini
 use Rattle.layout_plan.proofs.Lines.{IsInLine, NoLogicalFirst, ends_by_last, in_line}
 use Rattle.layout_plan.proofs.Named.{finds, found_passes, found_there, isnt_gone, outer_stays, plain_logical, some_left, stays, was_there}
 use Rattle.layout_plan.proofs.Orders.{any_part, some_part}
-use Rattle.layout_plan.proofs.Remains.{keeps_all, laid_parts}
 use Rattle.layout_plan.proofs.Settled.{remaining_stays}
 
 pub floor_some : (kind : Kind) → 1 ≤ floor_of kind

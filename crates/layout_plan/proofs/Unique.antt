@@ -1,5 +1,5 @@
 -- That a job has at most one plan, and none where there is a reason against it.
-use Rattle.std.proofs.Common.{◌≡◌, ℕ, ◌≤◌, List, map, refl, sym, ◌∙◌, subst, inl, inr, arith, Option, Some, None}
+use Rattle.std.proofs.Common.{◌≡◌, ℕ, ◌≤◌, List, refl, sym, ◌∙◌, subst, inl, inr, arith, Option, Some, None}
 use Rattle.std.proofs.lemmas.Bool.{cases_order}
 use Rattle.layout_plan.specs.declared.fault.NoPlan.{NoPlan}
 use Rattle.layout_plan.specs.declared.fault.NoPlan.TheVariants.{TooSmall, TooLarge, NoSuchPart, NamedTwice, Extended, Empty, WouldCut, DoesNotFit, NoSurplus, NoDeficit, Memory}
@@ -16,7 +16,7 @@ use Rattle.layout_plan.specs.Faults.{IsWishFault, IsLengthFault}
 use Rattle.layout_plan.specs.Plans.{Plan, HasEnd, IsLaid, ArePlaced, IsExtra, IsGivenUp, IsGreatest, IsPlan, IsRight, IsRightFor, IsTaken}
 use Rattle.layout_plan.specs.Refusals.{HasNoDeficit, HasNoPlan, HasNoSurplus, HasToCut, IsFlexible, IsTooLong, least_for, least_sectors}
 use Rattle.layout_plan.specs.Tables.{floor_of, limit_of}
-use Rattle.layout_plan.specs.Wishes.{flexible_part, remaining, settled, wanted, wish_of}
+use Rattle.layout_plan.specs.Wishes.{flexible_part, remaining, settled, wish_of}
 use Rattle.layout_plan.proofs.Orders.{any_part, one_extra, one_line, one_made, one_order}
 use Rattle.layout_plan.proofs.Ends.{end_rises, one_end}
 

@@ -17,7 +17,7 @@ use Rattle.layout_plan.specs.declared.wish.Wish.{Wish}
 use Rattle.layout_plan.specs.Alignment.{IsNext}
 use Rattle.layout_plan.specs.Faults.{IsDue}
 use Rattle.layout_plan.specs.Layouts.{IsLayout, Fits, last_end, spot_at}
-use Rattle.layout_plan.specs.Roles.{is_extended, is_logical}
+use Rattle.layout_plan.specs.Roles.{has_logical, is_extended, is_logical}
 use Rattle.layout_plan.specs.Tables.{HasNumber, floor_of, limit_of, most_numbers}
 use Rattle.layout_plan.specs.Wishes.{wanted, remaining, number_of, fate_of, flexible_part, settled, wish_of}
 
@@ -116,6 +116,10 @@ pub record IsLeastFree (most : ℕ) (placed : List Placed) (number : ℕ) : Type
   pub free : is_taken placed number ≡ false
   pub least : (lower : ℕ) → 1 ≤ lower → lower < number → is_taken placed lower ≡ true
 
+-- each number from 1 to most is that of a partition
+abbrev pub AllTaken : ℕ → List Placed → Type 0
+AllTaken most placed = (number : ℕ) → 1 ≤ number → number ≤ most → is_taken placed number ≡ true
+
 -- the sectors of the least partition that is made of what is left over
 abbrev pub least_extra : ℕ
 least_extra = 20480
@@ -142,7 +146,7 @@ pub record IsCramped (align last limit : ℕ) : Type 0 where
 abbrev pub IsExtra : Kind → Layout → ℕ → List Placed → ℕ → Option Placed → Type 0
 IsExtra kind layout last placed limit None =
     (layout.extra ≡ false) ⊎ (IsCramped layout.align last limit
-    ⊎ ((number : ℕ) → 1 ≤ number → number ≤ most_numbers kind → is_taken placed number ≡ true))
+    ⊎ AllTaken (most_numbers kind) placed)
 IsExtra kind layout last placed limit (Some one) = IsExtraPart kind layout last placed limit one
 
 -- the layout of the parts that remain ends at last, where the part that takes or gives up gets so many sectors
@@ -261,17 +265,17 @@ pub record AreFrom (parts : List Part) (placed : List Placed) : Type 0 where
   pub each : All (λ (one : Placed). Contains (map (λ (part : Part). part.number) parts) one.from) placed
   pub by_number : AllPairs (λ (before after : Placed). before.from < after.from) placed
 
--- none of the parts is extended
-abbrev pub NoneExtended : List Part → Type 0
-NoneExtended parts = All (λ (part : Part). is_extended part.role ≡ false) parts
+-- no extended partition is without a logical one
+abbrev pub NoneHollow : List Part → Type 0
+NoneHollow parts = All (λ (part : Part). is_extended part.role ≡ true → has_logical parts ≡ true) parts
 
--- each part of the source in its order, with its number and its length
+-- each part of the source in its order, with its number and, but for the extended one, its length
 pub record IsSameOrder (parts : List Part) (placed : List Placed) : Type 0 where
   pub as_many : length placed ≡ length parts
   pub each : (k : ℕ) (p : Part) (q : Placed) → k < length parts
       → let part = slice_index_or parts k p in
       let one = slice_index_or placed k q in
-      (one.from ≡ part.number) × (one.number ≡ part.number) × (one.count ≡ part.count)
+      (one.from ≡ part.number) × (one.number ≡ part.number) × (is_extended part.role ≡ false → one.count ≡ part.count)
 
 -- the partition beside the parts stands behind each of them, and has a number of its own
 pub record IsBehind (kind : Kind) (placed : List Placed) (limit : ℕ) (one : Placed) : Type 0 where

@@ -1,5 +1,6 @@
 -- What a partition is in its table, and which partitions are numbered together.
-use Rattle.std.specs.Prelude.{Bool, true, false, not, if◌then◌else◌}
+use Rattle.std.specs.Prelude.{Bool, true, false, not, if◌then◌else◌, List}
+use Rattle.std.specs.List.{list_any}
 use Rattle.layout_plan.specs.declared.part.Part.{Part}
 use Rattle.layout_plan.specs.declared.part.Role.{Role}
 use Rattle.layout_plan.specs.declared.part.Role.TheVariants.{Slot, Extended, Logical}
@@ -13,6 +14,10 @@ abbrev pub is_logical : Role → Bool
 is_logical Logical = true
 is_logical Slot = false
 is_logical Extended = false
+
+-- whether one of the parts is a logical partition
+abbrev pub has_logical : List Part → Bool
+has_logical parts = list_any (λ (part : Part). is_logical part.role) parts
 
 -- whether two parts are numbered together: logical partitions are a class of their own
 abbrev pub same_class : Part → Part → Bool

@@ -1,5 +1,5 @@
 -- The partitions of a valid table.
-use Rattle.std.specs.Prelude.{◌≡◌, ◌≢◌, ℕ, ◌+◌, ◌^◌, ◌<◌, ◌≤◌, ◌&&◌, nat_lt, Bool, true, false, List, All, AllPairs}
+use Rattle.std.specs.Prelude.{◌≡◌, ◌≢◌, ℕ, ◌+◌, ◌^◌, ◌<◌, ◌≤◌, ◌&&◌, ◌||◌, nat_lt, Bool, true, false, List, All, AllPairs}
 use Rattle.std.specs.List.{list_any}
 use Rattle.layout_plan.specs.declared.part.Kind.{Kind}
 use Rattle.layout_plan.specs.declared.part.Part.{Part}
@@ -17,10 +17,10 @@ pub record IsPart (kind : Kind) (part : Part) : Type 0 where
 abbrev pub opens_before : List Part → ℕ → Bool
 opens_before parts sector = list_any (λ (part : Part). is_extended part.role && nat_lt part.start sector) parts
 
--- parts by rising number that start at different sectors, at most one of them extended, which each logical one stands behind
+-- parts by rising number, at most one of them extended; no other one starts with it, and each logical one stands behind it
 pub record IsSource (kind : Kind) (parts : List Part) : Type 0 where
   pub each : All (IsPart kind) parts
   pub by_number : AllPairs (λ (before after : Part). before.number < after.number) parts
-  pub other_starts : AllPairs (λ (one other : Part). one.start ≢ other.start) parts
+  pub other_starts : AllPairs (λ (one other : Part). (is_extended one.role || is_extended other.role) ≡ true → one.start ≢ other.start) parts
   pub one_extended : AllPairs (λ (one other : Part). is_extended one.role ≡ true → is_extended other.role ≡ false) parts
   pub inside : All (λ (part : Part). is_logical part.role ≡ true → opens_before parts part.start ≡ true) parts

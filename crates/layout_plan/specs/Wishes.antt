@@ -5,7 +5,7 @@ use Rattle.layout_plan.specs.declared.part.Part.{Part}
 use Rattle.layout_plan.specs.declared.part.Fate.{Fate}
 use Rattle.layout_plan.specs.declared.part.Fate.TheVariants.{Kept, Resized, Ignored, Extended as Outer}
 use Rattle.layout_plan.specs.declared.part.Role.{Role}
-use Rattle.layout_plan.specs.declared.part.Role.TheVariants.{Slot, Extended, Logical}
+use Rattle.layout_plan.specs.declared.part.Role.TheVariants.{Extended}
 use Rattle.layout_plan.specs.declared.wish.Wish.{Wish}
 use Rattle.layout_plan.specs.declared.wish.What.{What}
 use Rattle.layout_plan.specs.declared.wish.What.TheVariants.{Expand, Shrink, Resize, Force, Delete, Ignore}

@@ -1,10 +1,8 @@
 //! The part that takes what the others leave over, or gives up what they lack.
 ghost use Rattle.std.specs.Prelude.{◌≡◌, ℕ, ◌^◌, ◌<◌, ◌≤◌, All, Contains, IfOk, IfErr, IfSome, Some};
 ghost use Rattle.layout_plan.specs.declared.wish.What.TheVariants.{Expand, Shrink};
-ghost use Rattle.layout_plan.specs.Plans.{HasEnd, IsFitting, IsGivenUp, IsGreatest, IsRight, IsTaken, IsTooMany};
-ghost use Rattle.layout_plan.specs.Refusals.{HasNoPlan, IsFlexible};
 ghost use Rattle.layout_plan.specs.Wishes.{flexible_part, is_flexible_wish, wish_of};
-ghost use Rattle.layout_plan.specs.inside.LaidOut.{IsFlexed};
+ghost use Rattle.layout_plan.specs.inside.Tasks.{EndsAt, FitsWith, GivesUp, HasFlexible, HasNone, IsFlexed, IsMostOf, IsRightOf, IsTooLongWith, Takes};
 
 use crate::fault::NoPlan;
 use crate::laying::{Laid, lay};
@@ -43,7 +41,7 @@ fn flexible_part(wishes: &[Wish], parts: &[Part]) -> Option<Part>
 /// Where the layout ends with so many sectors.
 fn end_with(alloc: Global, task: &Task, sectors: u64) -> Result<u64, AllocError>
     requires { sectors ≤ 2 ^ 33 }
-    ensures { IfOk result (HasEnd task.now.kind task.now.parts.now task.now.wishes.now task.now.layout.now sectors) }
+    ensures { IfOk result (EndsAt task.now sectors) }
 {
     let laid = lay(alloc, task, sectors)?;
     Ok(laid.last)
@@ -52,11 +50,11 @@ fn end_with(alloc: Global, task: &Task, sectors: u64) -> Result<u64, AllocError>
 /// The most sectors with which the layout ends at the limit or before it: it does with `low`, and doesn't with
 /// `high`.
 fn greatest(alloc: Global, task: &Task, low: u64, high: u64) -> Result<u64, AllocError>
-    requires fitting { IsFitting task.now.kind task.now.parts.now task.now.wishes.now task.now.layout.now task.now.limit low }
-    requires too_many { IsTooMany task.now.kind task.now.parts.now task.now.wishes.now task.now.layout.now task.now.limit high }
+    requires fitting { FitsWith task.now low }
+    requires too_many { IsTooLongWith task.now high }
     requires order { low < high }
     requires small { high ≤ 2 ^ 33 }
-    ensures greatest { IfOk result (IsGreatest task.now.kind task.now.parts.now task.now.wishes.now task.now.layout.now task.now.limit) }
+    ensures greatest { IfOk result (IsMostOf task.now) }
     ensures low { IfOk result (λ sectors. low ≤ sectors) }
     ensures high { IfOk result (λ sectors. sectors < high) }
 {
@@ -76,9 +74,9 @@ fn greatest(alloc: Global, task: &Task, low: u64, high: u64) -> Result<u64, Allo
 /// The most sectors that fit of a part that takes or gives up, where `low` do.
 fn most(alloc: Global, task: &Task, part: &Part, low: u64) -> Result<u64, AllocError>
     requires flexible { flexible_part task.now.wishes.now task.now.parts.now ≡ Some part.now }
-    requires fitting { IsFitting task.now.kind task.now.parts.now task.now.wishes.now task.now.layout.now task.now.limit low }
+    requires fitting { FitsWith task.now low }
     requires low { low ≤ 2 ^ 31 }
-    ensures greatest { IfOk result (IsGreatest task.now.kind task.now.parts.now task.now.wishes.now task.now.layout.now task.now.limit) }
+    ensures greatest { IfOk result (IsMostOf task.now) }
     ensures low { IfOk result (λ sectors. low ≤ sectors) }
     ensures small { IfOk result (λ sectors. sectors ≤ 2 ^ 33) }
 {
@@ -89,11 +87,11 @@ fn most(alloc: Global, task: &Task, part: &Part, low: u64) -> Result<u64, AllocE
 
 /// The sectors of a part that takes.
 fn taken(alloc: Global, task: &Task, part: &Part) -> Result<u64, NoPlan>
-    requires flexible { IsFlexible task.now.parts.now task.now.wishes.now Expand part.now }
+    requires flexible { HasFlexible task.now Expand part.now }
     requires small { part.now.count ≤ 2 ^ 31 }
-    ensures taken { IfOk result (λ sectors. IsTaken task.now.kind task.now.parts.now task.now.wishes.now task.now.layout.now task.now.limit sectors part.now) }
+    ensures taken { IfOk result (Takes task.now part.now) }
     ensures small { IfOk result (λ sectors. sectors ≤ 2 ^ 33) }
-    ensures none { IfErr result (HasNoPlan task.now.kind task.now.parts.now task.now.wishes.now task.now.layout.now task.now.target) }
+    ensures none { IfErr result (HasNone task.now) }
 {
     let count = part.count;
     let limit = task.limit;
@@ -110,11 +108,11 @@ fn taken(alloc: Global, task: &Task, part: &Part) -> Result<u64, NoPlan>
 
 /// The sectors of a part that gives up.
 fn given_up(alloc: Global, task: &Task, part: &Part) -> Result<u64, NoPlan>
-    requires flexible { IsFlexible task.now.parts.now task.now.wishes.now Shrink part.now }
+    requires flexible { HasFlexible task.now Shrink part.now }
     requires small { part.now.count ≤ 2 ^ 31 }
-    ensures given_up { IfOk result (λ sectors. IsGivenUp task.now.kind task.now.parts.now task.now.wishes.now task.now.layout.now task.now.limit sectors part.now) }
+    ensures given_up { IfOk result (GivesUp task.now part.now) }
     ensures small { IfOk result (λ sectors. sectors ≤ 2 ^ 33) }
-    ensures none { IfErr result (HasNoPlan task.now.kind task.now.parts.now task.now.wishes.now task.now.layout.now task.now.target) }
+    ensures none { IfErr result (HasNone task.now) }
 {
     let limit = task.limit;
     let last = end_with(alloc, task, part.count)?;
@@ -138,9 +136,9 @@ fn given_up(alloc: Global, task: &Task, part: &Part) -> Result<u64, NoPlan>
 
 /// The sectors of the part that takes or gives up; 0 where none does.
 fn flexible_sectors(alloc: Global, task: &Task) -> Result<u64, NoPlan>
-    ensures right { IfOk result (λ sectors. IsRight task.now.kind task.now.parts.now task.now.wishes.now task.now.layout.now task.now.limit sectors (flexible_part task.now.wishes.now task.now.parts.now)) }
+    ensures right { IfOk result (IsRightOf task.now) }
     ensures small { IfOk result (λ sectors. sectors ≤ 2 ^ 33) }
-    ensures none { IfErr result (HasNoPlan task.now.kind task.now.parts.now task.now.wishes.now task.now.layout.now task.now.target) }
+    ensures none { IfErr result (HasNone task.now) }
 {
     let Some(part) = flexible_part(task.wishes, task.parts) else {
         return Ok(0);
@@ -154,8 +152,8 @@ fn flexible_sectors(alloc: Global, task: &Task) -> Result<u64, NoPlan>
 
 /// The layout of the parts that remain, where the part that takes or gives up has its sectors.
 pub fn flexed(alloc: Global, task: &Task) -> Result<Laid, NoPlan>
-    ensures flexed { IfOk result (IsFlexed task.now.kind task.now.parts.now task.now.wishes.now task.now.layout.now task.now.limit) }
-    ensures none { IfErr result (HasNoPlan task.now.kind task.now.parts.now task.now.wishes.now task.now.layout.now task.now.target) }
+    ensures flexed { IfOk result (IsFlexed task.now) }
+    ensures none { IfErr result (HasNone task.now) }
 {
     let limit = task.limit;
     let sectors = flexible_sectors(alloc, task)?;

@@ -4,8 +4,7 @@ ghost use Rattle.layout_plan.specs.declared.part.Part.{Part};
 ghost use Rattle.layout_plan.specs.Plans.{Begins, ComesBefore, IsLeastStart, extended_start};
 ghost use Rattle.layout_plan.specs.Roles.{is_logical};
 ghost use Rattle.layout_plan.specs.Tables.{floor_of};
-ghost use Rattle.layout_plan.specs.Wishes.{remaining};
-ghost use Rattle.layout_plan.specs.inside.LaidOut.{IsLaidOut};
+ghost use Rattle.layout_plan.specs.inside.Tasks.{IsLaidOut, rest};
 
 use crate::alignment::next_multiple;
 use crate::line::{Line, Spot, lay_out};
@@ -52,7 +51,7 @@ fn turn(outer: u64, part: &Part) -> u64
 
 /// The parts that remain, each at its turn.
 fn by_turn(alloc: Global, task: &Task) -> Result<Vec<Part>, AllocError>
-    ensures same_parts { IfOk result (λ laid. IsPermutation (remaining task.now.wishes.now task.now.parts.now) laid.items) }
+    ensures same_parts { IfOk result (λ laid. IsPermutation (rest task.now) laid.items) }
     ensures in_turn { IfOk result (λ laid. AllPairs (ComesBefore task.now.parts.now) laid.items) }
 {
     let outer = extended_start(task.parts);
@@ -99,7 +98,7 @@ pub struct Laid {
 /// Lays the parts that remain out, where the part that takes or gives up gets so many sectors.
 pub fn lay(alloc: Global, task: &Task, sectors: u64) -> Result<Laid, AllocError>
     requires { sectors ≤ 2 ^ 33 }
-    ensures { IfOk result (IsLaidOut task.now.kind task.now.parts.now task.now.wishes.now task.now.layout.now sectors) }
+    ensures { IfOk result (IsLaidOut task.now sectors) }
 {
     let align = u64::from(task.layout.align);
     let wishes = settled(alloc, sectors, task.wishes)?;

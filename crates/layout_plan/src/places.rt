@@ -1,11 +1,10 @@
 //! What a plan makes of each part.
 ghost use Rattle.std.specs.Prelude.{◌≡◌, ◌≢◌, ℕ, ◌^◌, ◌≤◌, true, length, AllPairs, Contains, IfOk};
-ghost use Rattle.std.specs.List.{list_any};
 ghost use Rattle.layout_plan.specs.declared.part.Part.{Part};
-ghost use Rattle.layout_plan.specs.Plans.{ArePlaced, HasLength, IsLogicalEnd, IsPlaced, StandsAt};
-ghost use Rattle.layout_plan.specs.Roles.{is_extended, is_logical};
+ghost use Rattle.layout_plan.specs.Plans.{IsLogicalEnd, StandsAt};
+ghost use Rattle.layout_plan.specs.Roles.{has_logical, is_extended};
 ghost use Rattle.layout_plan.specs.Wishes.{remaining};
-ghost use Rattle.layout_plan.specs.inside.LaidOut.{IsLaidOut};
+ghost use Rattle.layout_plan.specs.inside.Tasks.{EndsBehind, HasLengthIn, IsLaidOut, Makes, MakesAll};
 
 use crate::laying::Laid;
 use crate::line::Spot;
@@ -32,7 +31,7 @@ fn spot_of(laid: &[Part], spots: &[Spot], part: &Part) -> Spot
 
 /// Where the last of the logical partitions ends.
 fn logical_end(laid: &[Part], spots: &[Spot]) -> u64
-    requires some { list_any (λ (part : Part). is_logical part.role) laid.now ≡ true }
+    requires some { has_logical laid.now ≡ true }
     requires as_many { length spots.now ≡ length laid.now }
     ensures { IsLogicalEnd laid.now spots.now result }
 {
@@ -49,9 +48,9 @@ fn logical_end(laid: &[Part], spots: &[Spot]) -> u64
 fn length_of(laid: &Laid, part: &Part, start: u64) -> u64
     requires small { part.now.count ≤ 2 ^ 31 }
     requires as_many { length laid.now.spots.items ≡ length laid.now.parts.items }
-    requires some { is_extended part.now.role ≡ true → list_any (λ (one : Part). is_logical one.role) laid.now.parts.items ≡ true }
-    requires around { is_extended part.now.role ≡ true → (last : ℕ) → IsLogicalEnd laid.now.parts.items laid.now.spots.items last → start ≤ last }
-    ensures { HasLength part.now.role laid.now.wishes.items laid.now.parts.items laid.now.spots.items part.now start result }
+    requires some { is_extended part.now.role ≡ true → has_logical laid.now.parts.items ≡ true }
+    requires around { is_extended part.now.role ≡ true → EndsBehind laid.now start }
+    ensures { HasLengthIn laid.now part.now start result }
 {
     match part.role {
         Role::Extended => logical_end(&laid.parts, &laid.spots) - start,
@@ -61,9 +60,9 @@ fn length_of(laid: &Laid, part: &Part, start: u64) -> u64
 
 /// What is made of a part that remains.
 fn placed(task: &Task, laid: &Laid, part: &Part) -> Placed
-    requires laid { IsLaidOut task.now.kind task.now.parts.now task.now.wishes.now task.now.layout.now laid.now.sectors laid.now }
+    requires laid { IsLaidOut task.now laid.now.sectors laid.now }
     requires there { Contains (remaining laid.now.wishes.items task.now.parts.now) part.now }
-    ensures { IsPlaced laid.now.wishes.items task.now.parts.now laid.now.parts.items laid.now.spots.items part.now result }
+    ensures { Makes task.now laid.now part.now result }
 {
     let spot = spot_of(&laid.parts, &laid.spots, part);
     Placed {
@@ -78,8 +77,8 @@ fn placed(task: &Task, laid: &Laid, part: &Part) -> Placed
 
 /// What is made of each of the parts that remain.
 pub fn place(alloc: Global, task: &Task, laid: &Laid) -> Result<Vec<Placed>, AllocError>
-    requires { IsLaidOut task.now.kind task.now.parts.now task.now.wishes.now task.now.layout.now laid.now.sectors laid.now }
-    ensures { IfOk result (λ all. ArePlaced laid.now.wishes.items task.now.parts.now laid.now.parts.items laid.now.spots.items all.items) }
+    requires { IsLaidOut task.now laid.now.sectors laid.now }
+    ensures { IfOk result (λ all. MakesAll task.now laid.now all.items) }
 {
     let mut all = Vec::new(alloc);
     for part in &remaining(alloc, &laid.wishes, task.parts)? {

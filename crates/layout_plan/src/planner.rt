@@ -1,6 +1,6 @@
 //! The plan of a job.
 ghost use Rattle.std.specs.Prelude.{◌≡◌, ℕ, [], ◌≤◌, ◌-◌, All, AllPairs, IfOk, IfErr, IfSome};
-ghost use Rattle.layout_plan.specs.Plans.{AreFrom, AreNumbered, IsBehind, IsInside, IsPlan, IsSameOrder, Lie, NoneExtended};
+ghost use Rattle.layout_plan.specs.Plans.{AreFrom, AreNumbered, IsBehind, IsInside, IsPlan, IsSameOrder, Lie, NoneHollow};
 ghost use Rattle.layout_plan.specs.Refusals.{HasNoPlan, OnePlan};
 ghost use Rattle.layout_plan.specs.Source.{IsSource};
 ghost use Rattle.layout_plan.specs.Tables.{least_disk, limit_of};
@@ -73,7 +73,7 @@ pub fn plan(
     // Each partition is one of the source, with a number of its own.
     ensures froms { IfOk result (λ planned. AreFrom parts.now planned.parts) }
     ensures numbers { IfOk result (λ planned. AreNumbered kind planned.parts) }
-    ensures same_order { wishes.now ≡ [] → NoneExtended parts.now → IfOk result (λ planned. IsSameOrder parts.now planned.parts) }
+    ensures same_order { IfOk result (λ planned. wishes.now ≡ [] → NoneHollow parts.now → IsSameOrder parts.now planned.parts) }
 
     // The partitions lie apart, the logical ones inside the extended one, behind the table and before the limit.
     ensures apart { IfOk result (λ planned. AllPairs Lie planned.parts) }

@@ -3,9 +3,7 @@ ghost use Rattle.std.specs.Prelude.{◌≡◌, ℕ, ◌+◌, ◌*◌, ◌≤◌,
 ghost use Rattle.layout_plan.specs.declared.part.Kind.TheVariants.{Mbr, Gpt};
 ghost use Rattle.layout_plan.specs.Source.{IsSource};
 
-use crate::{
-    Fate, Kind, Layout, NoPlan, Part, Placed, Planned, Role, Size, What, Wish, plan,
-};
+use crate::{Fate, Kind, Layout, NoPlan, Part, Placed, Planned, Role, Size, What, Wish, plan};
 use std::alloc::{AllocError, Global};
 use std::process::Abort;
 use std::test::Fail;
@@ -191,7 +189,11 @@ fn refuses_what_a_chain_can_not_have(rt: HostRuntime) {
             },
         ),
         (65536, wish(1, What::Delete), NoPlan::Extended { place: 2 }),
-        (65536, wish(2, What::Delete), NoPlan::NoSuchPart { place: 2 }),
+        (
+            65536,
+            wish(2, What::Delete),
+            NoPlan::NoSuchPart { place: 2 },
+        ),
         (65536, wish(6, sized), NoPlan::Empty { part: 6 }),
         (
             65536,

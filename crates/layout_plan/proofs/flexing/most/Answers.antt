@@ -1,5 +1,4 @@
 use Rattle.std.proofs.Common.{arith}
-use Rattle.layout_plan.specs.Tables.{limit_of}
 use Rattle.layout_plan.proofs.Ends.{too_many_is}
 use Rattle.layout_plan.proofs.Inside.{limit_inside}
 use Rattle.layout_plan.proofs.flexing.most.Goals as goal

@@ -23,7 +23,7 @@ returns-clause-in_turn c =
     let outer = c.extended_start-outer.result in
     let is_outer : outer ≡ extended_start parts = c.extended_start-outer.ensures in
     let stable : IsStableByKey (turn_at outer) nat_cmp laid c.sort_by_key.new.self.items =
-    c.in_ok-sort_by_key.ensures.stable (turn_at outer) (always_returns_same _ _ _ (λ a r q k. search rules)) in
+    c.in_ok-sort_by_key.ensures.stable (turn_at outer) (always_returns_same _ (λ a r. r ≡ turn_at outer a.0.now) _ (λ a r q k. search rules)) in
     let order : IsNonDecreasingBy (turn_at outer) c.sort_by_key.new.self.items =
     IsNonDecreasingBy-from_sort_by_key (turn_at outer) c.sort_by_key.new.self.items c.in_ok-sort_by_key.ensures.sorted (λ a r q k. search rules) in
     let Stable : ℕ → Type 0 = λ outer. IsStableByKey (turn_at outer) nat_cmp laid c.sort_by_key.new.self.items in

@@ -1,11 +1,11 @@
 -- The parts that remain are few and small.
-use Rattle.std.proofs.Common.{◌≡◌, ◌^◌, ◌≤◌, ◌∙◌, List, length, map, sym, ap, subst, arith, refl, All, IsPermutation}
+use Rattle.std.proofs.Common.{◌≡◌, ◌∙◌, List, map, sym, subst, arith, refl, IsPermutation}
 use Rattle.std.proofs.lemmas.List.{length-map}
 use Rattle.layout_plan.specs.declared.line.Piece.{Piece}
 use Rattle.layout_plan.specs.declared.part.Part.{Part}
 use Rattle.layout_plan.specs.Layouts.{IsLayout}
 use Rattle.layout_plan.specs.Plans.{piece_of}
-use Rattle.layout_plan.specs.Wishes.{remaining, settled}
+use Rattle.layout_plan.specs.Wishes.{settled}
 use Rattle.layout_plan.proofs.Remains.{few_laid, laid_parts, small_part}
 use Rattle.layout_plan.proofs.Settled.{remaining_stays}
 use Rattle.layout_plan.proofs.laying.lay.Goals as goal

@@ -1,4 +1,4 @@
-use Rattle.std.proofs.Common.{◌≡◌, ◌<◌, refl, arith, slice_index_or}
+use Rattle.std.proofs.Common.{◌≡◌, ◌<◌, refl, arith}
 use Rattle.layout_plan.specs.Layouts.{Stands, StandsFirst, no_piece, piece_at}
 use Rattle.layout_plan.proofs.Lines.{laid_more}
 use Rattle.layout_plan.proofs.line.lay_out.Goals as goal

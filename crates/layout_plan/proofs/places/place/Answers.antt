@@ -1,5 +1,4 @@
-use Rattle.std.proofs.Common.{◌≡◌, ◌∙◌, List, length, ap, arith, refl}
-use Rattle.layout_plan.specs.declared.part.Part.{Part}
+use Rattle.std.proofs.Common.{◌≡◌, arith, refl}
 use Rattle.layout_plan.specs.Wishes.{remaining}
 use Rattle.layout_plan.proofs.Placing.{placed_all, placed_more}
 use Rattle.layout_plan.proofs.places.place.Goals as goal
