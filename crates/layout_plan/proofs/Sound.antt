@@ -19,7 +19,7 @@ use Rattle.layout_plan.specs.declared.wish.What.TheVariants.{Expand, Shrink, Res
 use Rattle.layout_plan.specs.declared.wish.Wish.{Wish}
 use Rattle.layout_plan.specs.Faults.{AreAllowed}
 use Rattle.layout_plan.specs.Layouts.{end_from, last_end, piece_at, spot_at}
-use Rattle.layout_plan.specs.Plans.{Apart, AreFrom, AreNumbered, ArePlaced, ComesBefore, HasLength, IsAround, IsBehind, IsExtra, IsInside, IsLaid, IsLogicalEnd, IsPlaced, Lie, LieAs, StandsAt, extended_start, first_of, role_by, role_of, turn}
+use Rattle.layout_plan.specs.Plans.{Apart, AreFrom, AreNumbered, ArePlaced, ComesBefore, HasLength, IsAround, IsBehind, IsExtra, IsInside, IsLaid, IsLogicalEnd, IsPlaced, KeepApart, KeepApartAs, StandsAt, extended_start, first_of, role_by, role_of, turn}
 use Rattle.layout_plan.specs.Roles.{is_extended, is_logical, same_class}
 use Rattle.layout_plan.specs.Source.{IsPart, IsSource}
 use Rattle.layout_plan.specs.Tables.{HasNumber, floor_of, last_number, most_numbers}
@@ -79,20 +79,20 @@ flipped p q (inl x) = inr x
 flipped p q (inr x) = inl x
 
 -- two partitions lie as they have to, by what they are
-lie_as : (r s : Role) (p q : Placed)
+keep_apart_as : (r s : Role) (p q : Placed)
     → (is_extended r ≡ false → is_extended s ≡ false → Apart p q)
     → (is_extended r ≡ true → is_logical s ≡ true → IsAround p q) → (is_logical r ≡ true → is_extended s ≡ true → IsAround q p)
     → (is_extended r ≡ true → is_extended s ≡ false → is_logical s ≡ false → Apart p q) → (is_extended s ≡ true → is_extended r ≡ false → is_logical r ≡ false → Apart q p)
-    → (is_extended r ≡ true → is_extended s ≡ true → ⊥) → LieAs r s p q
-lie_as Slot Slot p q plain around inside outer inner both = plain refl refl
-lie_as Slot Extended p q plain around inside outer inner both = flipped q p (inner refl refl refl)
-lie_as Slot Logical p q plain around inside outer inner both = plain refl refl
-lie_as Extended Slot p q plain around inside outer inner both = outer refl refl refl
-lie_as Extended Extended p q plain around inside outer inner both = absurd (both refl refl)
-lie_as Extended Logical p q plain around inside outer inner both = around refl refl
-lie_as Logical Slot p q plain around inside outer inner both = plain refl refl
-lie_as Logical Extended p q plain around inside outer inner both = inside refl refl
-lie_as Logical Logical p q plain around inside outer inner both = plain refl refl
+    → (is_extended r ≡ true → is_extended s ≡ true → ⊥) → KeepApartAs r s p q
+keep_apart_as Slot Slot p q plain around inside outer inner both = plain refl refl
+keep_apart_as Slot Extended p q plain around inside outer inner both = flipped q p (inner refl refl refl)
+keep_apart_as Slot Logical p q plain around inside outer inner both = plain refl refl
+keep_apart_as Extended Slot p q plain around inside outer inner both = outer refl refl refl
+keep_apart_as Extended Extended p q plain around inside outer inner both = absurd (both refl refl)
+keep_apart_as Extended Logical p q plain around inside outer inner both = around refl refl
+keep_apart_as Logical Slot p q plain around inside outer inner both = plain refl refl
+keep_apart_as Logical Extended p q plain around inside outer inner both = inside refl refl
+keep_apart_as Logical Logical p q plain around inside outer inner both = plain refl refl
 
 -- slots and entries have lower numbers than logical partitions
 slots_first : (kind : Kind) (role : Role) (m n : ℕ) → is_logical role ≡ false → HasNumber kind role m → HasNumber kind Logical n → m < n
@@ -286,15 +286,15 @@ module _ (kind : Kind) (parts : List Part) (source : IsSource kind parts) (wishe
         ]
       ]
 
-  lie : (one other : Part) (p q : Placed) → Contains parts one → Contains parts other → Made one p → Made other q → one.number ≢ other.number → Lie p q
-  lie one other p q was as_was x y differ =
+  keep_apart : (one other : Part) (p q : Placed) → Contains parts one → Contains parts other → Made one p → Made other q → one.number ≢ other.number → KeepApart p q
+  keep_apart one other p q was as_was x y differ =
       let turned : other.number ≢ one.number = λ same. differ (sym same) in
-      let As : Role → Role → Type 0 = λ r s. LieAs r s p q in
-      let First : Role → Type 0 = λ r. LieAs r (role_of q) p q in
-      let Second : Role → Type 0 = λ s. LieAs one.role s p q in
+      let As : Role → Role → Type 0 = λ r s. KeepApartAs r s p q in
+      let First : Role → Type 0 = λ r. KeepApartAs r (role_of q) p q in
+      let Second : Role → Type 0 = λ s. KeepApartAs one.role s p q in
       subst First (sym (role_is one p x))
       (subst Second (sym (role_is other q y))
-      (lie_as one.role other.role p q
+      (keep_apart_as one.role other.role p q
       (plain_apart one other p q x y differ)
       (around one other p q x y)
       (λ logical extended. around other one q p y x extended logical)
@@ -378,13 +378,13 @@ module _ (kind : Kind) (parts : List Part) (source : IsSource kind parts) (wishe
     lower_at i j before within =
         keeps_pairs (λ (one other : Part). one.number < other.number) wishes parts source.by_number i j any_part before (omega (arith, as_long))
 
-    pub all_lie : AllPairs Lie placed
-    all_lie i j d before within =
+    pub all_keep_apart : AllPairs KeepApart placed
+    all_keep_apart i j d before within =
         let one = slice_index_or (remaining wishes parts) i any_part in
         let other = slice_index_or (remaining wishes parts) j any_part in
         let early : i < length placed = omega arith in
         let less = lower_at i j before within in
-        lie one other (slice_index_or placed i d) (slice_index_or placed j d) (part_there i early) (part_there j within) (made_at i d early) (made_at j d within) (omega arith)
+        keep_apart one other (slice_index_or placed i d) (slice_index_or placed j d) (part_there i early) (part_there j within) (made_at i d early) (made_at j d within) (omega arith)
 
     pub all_inside : (limit : ℕ) → last_end (floor_of kind) spots ≤ limit → All (IsInside kind limit) placed
     all_inside limit fits k d within =

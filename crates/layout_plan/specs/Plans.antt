@@ -232,21 +232,21 @@ pub record IsAround (outer inner : Placed) : Type 0 where
   pub from : outer.start ≤ first_of inner
   pub to : inner.start + inner.count ≤ outer.start + outer.count
 
--- how two partitions of a plan lie, by what they are
-abbrev pub LieAs : Role → Role → Placed → Placed → Type 0
-LieAs Extended Logical one other = IsAround one other
-LieAs Logical Extended one other = IsAround other one
-LieAs Slot Slot one other = Apart one other
-LieAs Slot Extended one other = Apart one other
-LieAs Slot Logical one other = Apart one other
-LieAs Extended Slot one other = Apart one other
-LieAs Extended Extended one other = Apart one other
-LieAs Logical Slot one other = Apart one other
-LieAs Logical Logical one other = Apart one other
+-- how two partitions of a plan keep apart, by what they are
+abbrev pub KeepApartAs : Role → Role → Placed → Placed → Type 0
+KeepApartAs Extended Logical one other = IsAround one other
+KeepApartAs Logical Extended one other = IsAround other one
+KeepApartAs Slot Slot one other = Apart one other
+KeepApartAs Slot Extended one other = Apart one other
+KeepApartAs Slot Logical one other = Apart one other
+KeepApartAs Extended Slot one other = Apart one other
+KeepApartAs Extended Extended one other = Apart one other
+KeepApartAs Logical Slot one other = Apart one other
+KeepApartAs Logical Logical one other = Apart one other
 
--- two partitions of a plan lie apart, but for a logical one, which lies inside the extended one
-abbrev pub Lie : Placed → Placed → Type 0
-Lie one other = LieAs (role_of one) (role_of other) one other
+-- two partitions of a plan share no sector, but for a logical one, which lies inside the extended one
+abbrev pub KeepApart : Placed → Placed → Type 0
+KeepApart one other = KeepApartAs (role_of one) (role_of other) one other
 
 -- behind the table and before the limit, with at least one sector, and with its boot record before it
 pub record IsInside (kind : Kind) (limit : ℕ) (placed : Placed) : Type 0 where
@@ -276,6 +276,10 @@ pub record IsSameOrder (parts : List Part) (placed : List Placed) : Type 0 where
       → let part = slice_index_or parts k p in
       let one = slice_index_or placed k q in
       (one.from ≡ part.number) × (one.number ≡ part.number) × (is_extended part.role ≡ false → one.count ≡ part.count)
+
+-- where no extended partition is without a logical one, each part is kept
+abbrev pub KeepsOrder : List Part → List Placed → Type 0
+KeepsOrder parts placed = NoneHollow parts → IsSameOrder parts placed
 
 -- the partition beside the parts stands behind each of them, and has a number of its own
 pub record IsBehind (kind : Kind) (placed : List Placed) (limit : ℕ) (one : Placed) : Type 0 where

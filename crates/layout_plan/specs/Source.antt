@@ -17,10 +17,14 @@ pub record IsPart (kind : Kind) (part : Part) : Type 0 where
 abbrev pub opens_before : List Part → ℕ → Bool
 opens_before parts sector = list_any (λ (part : Part). is_extended part.role && nat_lt part.start sector) parts
 
--- parts by rising number, at most one of them extended; no other one starts with it, and each logical one stands behind it
+-- the two start at different sectors, if one of them is extended
+abbrev pub StartApart : Part → Part → Type 0
+StartApart one other = (is_extended one.role || is_extended other.role) ≡ true → one.start ≢ other.start
+
+-- parts by rising number, at most one of them extended: no other one starts with it, and each logical one behind it
 pub record IsSource (kind : Kind) (parts : List Part) : Type 0 where
   pub each : All (IsPart kind) parts
   pub by_number : AllPairs (λ (before after : Part). before.number < after.number) parts
-  pub other_starts : AllPairs (λ (one other : Part). (is_extended one.role || is_extended other.role) ≡ true → one.start ≢ other.start) parts
+  pub other_starts : AllPairs StartApart parts
   pub one_extended : AllPairs (λ (one other : Part). is_extended one.role ≡ true → is_extended other.role ≡ false) parts
   pub inside : All (λ (part : Part). is_logical part.role ≡ true → opens_before parts part.start ≡ true) parts

@@ -82,7 +82,8 @@ remaining wishes parts = filter (λ part. not (is_gone wishes parts part)) parts
 
 -- whether a part that isn't made has a lower number of the same class
 abbrev pub makes_room : List Wish → List Part → Part → Part → Bool
-makes_room wishes parts part other = same_class part other && (nat_lt other.number part.number && is_gone wishes parts other)
+makes_room wishes parts part other =
+    same_class part other && (nat_lt other.number part.number && is_gone wishes parts other)
 
 -- the number of a part on the target: less by those of lower numbers of its class that aren't made
 abbrev pub number_of : List Wish → List Part → Part → ℕ

@@ -1,6 +1,6 @@
 //! The plan of a job.
 ghost use Rattle.std.specs.Prelude.{◌≡◌, ℕ, [], ◌≤◌, ◌-◌, All, AllPairs, IfOk, IfErr, IfSome};
-ghost use Rattle.layout_plan.specs.Plans.{AreFrom, AreNumbered, IsBehind, IsInside, IsPlan, IsSameOrder, Lie, NoneHollow};
+ghost use Rattle.layout_plan.specs.Plans.{AreFrom, AreNumbered, IsBehind, IsInside, IsPlan, KeepApart, KeepsOrder};
 ghost use Rattle.layout_plan.specs.Refusals.{HasNoPlan, OnePlan};
 ghost use Rattle.layout_plan.specs.Source.{IsSource};
 ghost use Rattle.layout_plan.specs.Tables.{least_disk, limit_of};
@@ -46,7 +46,8 @@ fn limit(kind: Kind, sectors: u64) -> u64
 /// the greatest with which the layout fits. They are laid out by rising start, the logical ones at the turn of the
 /// extended one, which isn't made without them. The first stands at the least start of all, or at the first
 /// multiple of the alignment where the layout asks for that, and each later one at the next multiple behind the one
-/// before it; a logical one behind its boot record. Their numbers fall by those of their class that aren't made.
+/// before it; a logical one behind its boot record. Parts that start at one sector stand by number. Their numbers
+/// fall by those of their class that aren't made.
 ///
 /// # Errors
 ///
@@ -73,10 +74,10 @@ pub fn plan(
     // Each partition is one of the source, with a number of its own.
     ensures froms { IfOk result (λ planned. AreFrom parts.now planned.parts) }
     ensures numbers { IfOk result (λ planned. AreNumbered kind planned.parts) }
-    ensures same_order { IfOk result (λ planned. wishes.now ≡ [] → NoneHollow parts.now → IsSameOrder parts.now planned.parts) }
+    ensures same_order { wishes.now ≡ [] → IfOk result (λ planned. KeepsOrder parts.now planned.parts) }
 
     // The partitions lie apart, the logical ones inside the extended one, behind the table and before the limit.
-    ensures apart { IfOk result (λ planned. AllPairs Lie planned.parts) }
+    ensures apart { IfOk result (λ planned. AllPairs KeepApart planned.parts) }
     ensures inside { IfOk result (λ planned. All (IsInside kind planned.limit) planned.parts) }
     ensures behind { IfOk result (λ planned. IfSome planned.extra (IsBehind kind planned.parts planned.limit)) }
     ensures limit { IfOk result (λ planned. planned.limit ≤ sectors) }

@@ -10,7 +10,7 @@ use Rattle.layout_plan.proofs.Inside.{limit_inside}
 use Rattle.layout_plan.proofs.Lengths.{some_wanted}
 use Rattle.layout_plan.proofs.Refused.{refused_length, refused_wish}
 use Rattle.layout_plan.proofs.Same.{in_same_order}
-use Rattle.layout_plan.proofs.Sound.{all_inside, all_lie, are_from, are_numbered, extra_behind}
+use Rattle.layout_plan.proofs.Sound.{all_inside, all_keep_apart, are_from, are_numbered, extra_behind}
 use Rattle.layout_plan.proofs.planner.plan.Goals as goal
 
 pub returns-in_err-judge_wishes-clause-none : goal.returns-in_err-judge_wishes-clause-none
@@ -76,7 +76,7 @@ returns c =
       same_order = λ unwished plain.
           let Unwished : List Wish → Type 0 = λ ws. ArePlaced (settled sectors ws) parts laid spots placed in
           rw c.new.ensures.parts (in_same_order parts laid spots placed plain (subst Unwished unwished are));
-      apart = rw c.new.ensures.parts (all_lie kind parts source wishes fine layout sectors laid spots order some placed are);
+      apart = rw c.new.ensures.parts (all_keep_apart kind parts source wishes fine layout sectors laid spots order some placed are);
       inside = rw (c.new.ensures.parts, new_limit) (all_inside kind parts source wishes fine layout sectors laid spots order some placed are (limit_of kind c.args.sectors) fits);
       behind = rw (c.new.ensures.parts, new_limit)
           (extra_behind kind parts source wishes fine layout sectors laid spots order some placed are (limit_of kind c.args.sectors) c.new.result.extra extra);
