@@ -10,8 +10,9 @@ use Rattle.layout_plan.specs.declared.part.Role.TheVariants.{Slot}
 use Rattle.layout_plan.specs.declared.wish.Layout.{Layout}
 use Rattle.layout_plan.specs.declared.wish.What.TheVariants.{Delete}
 use Rattle.layout_plan.specs.declared.wish.Wish.{Wish}
-use Rattle.layout_plan.specs.Faults.{AreAllowed, IsFirstBadLength, IsFirstBadWish, is_extended, length_fault, wish_fault, would_cut}
+use Rattle.layout_plan.specs.Faults.{AreAllowed, IsFirstBadLength, IsFirstBadWish, length_fault, wish_fault, would_cut}
 use Rattle.layout_plan.specs.Refusals.{HasNoPlan}
+use Rattle.layout_plan.specs.Roles.{is_extended}
 use Rattle.layout_plan.specs.Tables.{HasRoom}
 use Rattle.layout_plan.specs.Wishes.{is_deleted, wanted, wish_of}
 

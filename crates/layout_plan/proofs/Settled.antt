@@ -1,14 +1,17 @@
 -- What settling the part that takes or gives up leaves as it is, and how the lengths follow it.
-use Rattle.std.proofs.Common.{◌≡◌, ℕ, ◌≤◌, ◌==◌, Bool, true, not, if◌then◌else◌, List, [], ◌∷◌, refl, ◌∙◌, ap, inl, inr, arith, Option, Some, None}
+use Rattle.std.proofs.Common.{◌≡◌, ℕ, ◌≤◌, ◌==◌, ◌&&◌, ◌||◌, Bool, true, not, List, [], ◌∷◌, refl, ◌∙◌, ap, inl, inr, arith, Option, Some, None}
+use Rattle.std.specs.List.{list_any}
 use Rattle.std.proofs.lemmas.Bool.{cases_Bool}
+use Rattle.std.proofs.lemmas.List.Elements.{filter_agree}
 use Rattle.layout_plan.specs.declared.part.Part.{Part}
 use Rattle.layout_plan.specs.declared.wish.What.{What}
 use Rattle.layout_plan.specs.declared.wish.What.TheVariants.{Expand, Shrink, Resize, Force, Delete, Ignore}
 use Rattle.layout_plan.specs.declared.wish.Wish.{Wish}
-use Rattle.layout_plan.specs.Wishes.{asked_length, is_delete, is_deleted, is_flexible_wish, remaining, settle_what, settled, wanted, wish_of}
+use Rattle.layout_plan.specs.Roles.{is_extended, is_logical}
+use Rattle.layout_plan.specs.Wishes.{asked_length, is_delete, is_deleted, is_flexible_wish, is_gone, keeps_logical, remaining, settle_what, settled, wanted, wish_of}
 
 -- what is wished of a part, settled
-abbrev settled_wish : ℕ → Option What → Option What
+abbrev pub settled_wish : ℕ → Option What → Option What
 settled_wish sectors None = None
 settled_wish sectors (Some what) = Some (settle_what sectors what)
 
@@ -33,13 +36,30 @@ delete_stays sectors (Some Ignore) = refl
 pub deleted_stays : (sectors : ℕ) (wishes : List Wish) (part : Part) → is_deleted (settled sectors wishes) part ≡ is_deleted wishes part
 deleted_stays sectors wishes part = ap is_delete (wish_settled sectors part.number wishes) ∙ delete_stays sectors (wish_of wishes part.number)
 
+logical_stays : (sectors : ℕ) (wishes : List Wish) (parts : List Part)
+    → list_any (λ (part : Part). is_logical part.role && not (is_deleted (settled sectors wishes) part)) parts ≡ list_any (λ (part : Part). is_logical part.role && not (is_deleted wishes part)) parts
+logical_stays sectors wishes [] = refl
+logical_stays sectors wishes (part ∷ parts) =
+    let Any : Bool → Bool → Bool = λ gone rest. is_logical part.role && not gone || rest in
+    ap (λ gone. Any gone (list_any (λ (one : Part). is_logical one.role && not (is_deleted (settled sectors wishes) one)) parts)) (deleted_stays sectors wishes part)
+    ∙ ap (λ rest. Any (is_deleted wishes part) rest) (logical_stays sectors wishes parts)
+
+pub keeps_stays : (sectors : ℕ) (wishes : List Wish) (parts : List Part) → keeps_logical (settled sectors wishes) parts ≡ keeps_logical wishes parts
+unfolding keeps_logical
+keeps_stays sectors wishes parts = logical_stays sectors wishes parts
+
+-- the same parts aren't made
+pub gone_stays : (sectors : ℕ) (wishes : List Wish) (parts : List Part) (part : Part) → is_gone (settled sectors wishes) parts part ≡ is_gone wishes parts part
+gone_stays sectors wishes parts part =
+    let Gone : Bool → Bool → Bool = λ deleted keeps. deleted || is_extended part.role && not keeps in
+    ap (λ deleted. Gone deleted (keeps_logical (settled sectors wishes) parts)) (deleted_stays sectors wishes part)
+    ∙ ap (λ keeps. Gone (is_deleted wishes part) keeps) (keeps_stays sectors wishes parts)
+
 -- the same parts remain
 pub remaining_stays : (sectors : ℕ) (wishes : List Wish) (parts : List Part) → remaining (settled sectors wishes) parts ≡ remaining wishes parts
-remaining_stays sectors wishes [] = refl
-remaining_stays sectors wishes (part ∷ parts) =
-    let Kept : Bool → List Part → List Part = λ gone rest. if not gone then part ∷ rest else rest in
-    ap (λ gone. Kept gone (remaining (settled sectors wishes) parts)) (deleted_stays sectors wishes part)
-    ∙ ap (λ rest. Kept (is_deleted wishes part) rest) (remaining_stays sectors wishes parts)
+remaining_stays sectors wishes parts =
+    filter_agree (λ (part : Part). not (is_gone (settled sectors wishes) parts part)) (λ (part : Part). not (is_gone wishes parts part))
+    (λ part. ap (λ gone. not gone) (gone_stays sectors wishes parts part)) parts
 
 -- the lengths of the other parts stay, and that of this one rises
 asked_rises : (low high : ℕ) (what : Option What) (old : ℕ) → low ≤ high → asked_length (settled_wish low what) old ≤ asked_length (settled_wish high what) old

@@ -1,8 +1,9 @@
 -- That a job has at most one plan, and none where there is a reason against it.
-use Rattle.std.proofs.Common.{◌≡◌, ℕ, ◌≤◌, List, map, refl, sym, ◌∙◌, subst, inl, inr, arith, Option, Some, None}
+use Rattle.std.proofs.Common.{◌≡◌, ℕ, ◌≤◌, List, refl, sym, ◌∙◌, subst, inl, inr, arith, Option, Some, None}
 use Rattle.std.proofs.lemmas.Bool.{cases_order}
 use Rattle.layout_plan.specs.declared.fault.NoPlan.{NoPlan}
 use Rattle.layout_plan.specs.declared.fault.NoPlan.TheVariants.{TooSmall, TooLarge, NoSuchPart, NamedTwice, Extended, Empty, WouldCut, DoesNotFit, NoSurplus, NoDeficit, Memory}
+use Rattle.layout_plan.specs.declared.line.Spot.{Spot}
 use Rattle.layout_plan.specs.declared.part.Kind.{Kind}
 use Rattle.layout_plan.specs.declared.part.Part.{Part}
 use Rattle.layout_plan.specs.declared.part.Placed.{Placed}
@@ -15,7 +16,7 @@ use Rattle.layout_plan.specs.Faults.{IsWishFault, IsLengthFault}
 use Rattle.layout_plan.specs.Plans.{Plan, HasEnd, IsLaid, ArePlaced, IsExtra, IsGivenUp, IsGreatest, IsPlan, IsRight, IsRightFor, IsTaken}
 use Rattle.layout_plan.specs.Refusals.{HasNoDeficit, HasNoPlan, HasNoSurplus, HasToCut, IsFlexible, IsTooLong, least_for, least_sectors}
 use Rattle.layout_plan.specs.Tables.{floor_of, limit_of}
-use Rattle.layout_plan.specs.Wishes.{flexible_part, remaining, settled, wanted, wish_of}
+use Rattle.layout_plan.specs.Wishes.{flexible_part, remaining, settled, wish_of}
 use Rattle.layout_plan.proofs.Orders.{any_part, one_extra, one_line, one_made, one_order}
 use Rattle.layout_plan.proofs.Ends.{end_rises, one_end}
 
@@ -30,10 +31,10 @@ same_plan p q a b c =
     let made : plan_of p.parts p.extra p.limit ≡ plan_of q.parts q.extra q.limit = rw (a, b, c) in made
 
 -- the parts are laid out in one way
-one_last : (kind : Kind) (parts : List Part) (wishes : List Wish) (layout : Layout) (laid other : List Part) (xs ys : List ℕ)
+one_last : (kind : Kind) (parts : List Part) (wishes : List Wish) (layout : Layout) (laid other : List Part) (xs ys : List Spot)
     → IsLaid kind parts wishes layout laid xs → IsLaid kind parts wishes layout other ys → (laid ≡ other) × (xs ≡ ys)
 one_last kind parts wishes layout laid other xs ys x y =
-    let same : laid ≡ other = one_order (remaining wishes parts) laid other x.the_remaining y.the_remaining x.rising y.rising in
+    let same : laid ≡ other = one_order parts (remaining wishes parts) laid other x.the_remaining y.the_remaining x.in_turn y.in_turn in
     let P : List Part → Type 0 = λ l. IsLaid kind parts wishes layout l xs in
     (same, one_line kind parts wishes layout other xs ys (subst P same x) y)
 
@@ -44,8 +45,8 @@ module _ (kind : Kind) (parts : List Part) (wishes : List Wish) (layout : Layout
       elim (cases_order a b) [
         | inl same ↦ same
         | inr apart ↦ elim apart [
-          | inl less ↦ let long = x.no_more b y.last less y.is_last in let short = y.fits in absurd (omega arith)
-          | inr more ↦ let long = y.no_more a x.last more x.is_last in let short = x.fits in absurd (omega arith)
+          | inl less ↦ let long = x.no_more b y.fitting.last less y.fitting.is_last in let short = y.fitting.fits in absurd (omega arith)
+          | inr more ↦ let long = y.no_more a x.fitting.last more x.fitting.is_last in let short = x.fitting.fits in absurd (omega arith)
         ]
       ]
 
@@ -89,20 +90,16 @@ module _ (kind : Kind) (parts : List Part) (wishes : List Wish) (layout : Layout
   one_planned one other x y =
       let sectors : x.sectors ≡ y.sectors = one_right kind parts wishes layout (limit_of kind target) x.sectors y.sectors (flexible_part wishes parts) x.right y.right in
       let ws = settled y.sectors wishes in
-      let Laid : ℕ → Type 0 = λ n. IsLaid kind parts (settled n wishes) layout x.laid x.starts in
-      let Made : ℕ → Type 0 = λ n. ArePlaced (settled n wishes) parts x.laid x.starts one.parts in
-      let Extra : ℕ → Type 0 = λ n. IsExtra kind layout (last_end (floor_of kind) (map (wanted (settled n wishes)) x.laid) x.starts) one.parts one.limit one.extra in
-      let both = one_last kind parts ws layout x.laid y.laid x.starts y.starts (subst Laid sectors x.order) y.order in
+      let Laid : ℕ → Type 0 = λ n. IsLaid kind parts (settled n wishes) layout x.laid x.spots in
+      let Made : ℕ → Type 0 = λ n. ArePlaced (settled n wishes) parts x.laid x.spots one.parts in
+      let both = one_last kind parts ws layout x.laid y.laid x.spots y.spots (subst Laid sectors x.order) y.order in
       let laid : x.laid ≡ y.laid = both.0 in
-      let starts : x.starts ≡ y.starts = both.1 in
-      let P : List Part → Type 0 = λ l. ArePlaced ws parts l x.starts one.parts in
-      let Q : List ℕ → Type 0 = λ s. ArePlaced ws parts y.laid s one.parts in
-      let made : one.parts ≡ other.parts = one_made ws parts y.laid y.starts one.parts other.parts y.order.rising (subst Q starts (subst P laid (subst Made sectors x.placed))) y.placed in
+      let spots : x.spots ≡ y.spots = both.1 in
+      let P : List Part → Type 0 = λ l. ArePlaced ws parts l x.spots one.parts in
+      let Q : List Spot → Type 0 = λ s. ArePlaced ws parts y.laid s one.parts in
+      let made : one.parts ≡ other.parts = one_made ws parts y.laid y.spots one.parts other.parts y.order.in_turn (subst Q spots (subst P laid (subst Made sectors x.placed))) y.placed in
       let limit : one.limit ≡ other.limit = x.is_limit ∙ sym y.is_limit in
-      let lasts : last_end (floor_of kind) (map (wanted ws) x.laid) x.starts ≡ last_end (floor_of kind) (map (wanted ws) y.laid) y.starts =
-      rw (laid, starts) in
-      let extra_of_one : IsExtra kind layout (last_end (floor_of kind) (map (wanted ws) y.laid) y.starts) other.parts other.limit one.extra =
-      rw (← lasts, ← made, ← limit) (subst Extra sectors x.is_extra) in
+      let extra_of_one : IsExtra kind layout (last_end (floor_of kind) y.spots) other.parts other.limit one.extra = rw (← spots, ← made, ← limit) x.is_extra in
       let extra : one.extra ≡ other.extra = one_extra kind layout _ other.parts other.limit one.extra other.extra extra_of_one y.is_extra in
       sym (same_plan one other made extra limit)
 
@@ -119,8 +116,8 @@ module _ (kind : Kind) (parts : List Part) (wishes : List Wish) (layout : Layout
       cc (fine, wrong)
 
   -- where a plan ends
-  planned_end : (one : Plan) → (x : IsPlan kind parts wishes layout target one) → HasEnd kind parts wishes layout x.sectors (last_end (floor_of kind) (map (wanted (settled x.sectors wishes)) x.laid) x.starts)
-  planned_end one x = record { laid = x.laid; starts = x.starts; order = x.order; is_last = refl }
+  planned_end : (one : Plan) → (x : IsPlan kind parts wishes layout target one) → HasEnd kind parts wishes layout x.sectors (last_end (floor_of kind) x.spots)
+  planned_end one x = record { laid = x.laid; spots = x.spots; order = x.order; is_last = refl }
 
   not_too_long : (one : Plan) (last limit : ℕ) → IsPlan kind parts wishes layout target one → IsTooLong kind parts wishes layout target last limit → ⊥
   not_too_long one last limit x y =

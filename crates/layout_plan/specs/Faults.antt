@@ -1,21 +1,16 @@
 -- What is wrong with wishes and lengths, before anything is laid out.
-use Rattle.std.specs.Prelude.{◌≡◌, ℕ, ◌<◌, ◌==◌, nat_lt, ◌&&◌, Bool, true, false, if◌then◌else◌, List, length, take, slice_index_or, All, Option, Some, None}
+use Rattle.std.specs.Prelude.{◌≡◌, ℕ, ◌<◌, ◌==◌, nat_lt, ◌&&◌, Bool, false, if◌then◌else◌, List, length, take, slice_index_or, All, Option, Some, None}
 use Rattle.std.specs.List.{list_any}
 use Rattle.layout_plan.specs.declared.fault.NoPlan.{NoPlan}
 use Rattle.layout_plan.specs.declared.fault.NoPlan.TheVariants.{NoSuchPart, NamedTwice, Extended, Empty, WouldCut}
 use Rattle.layout_plan.specs.declared.part.Kind.{Kind}
 use Rattle.layout_plan.specs.declared.part.Part.{Part}
-use Rattle.layout_plan.specs.declared.part.Role.{Role}
-use Rattle.layout_plan.specs.declared.part.Role.TheVariants.{Extended as TheExtended}
 use Rattle.layout_plan.specs.declared.wish.Wish.{Wish}
 use Rattle.layout_plan.specs.declared.wish.What.{What}
 use Rattle.layout_plan.specs.declared.wish.What.TheVariants.{Resize}
+use Rattle.layout_plan.specs.Roles.{is_extended}
 use Rattle.layout_plan.specs.Tables.{HasRoom}
 use Rattle.layout_plan.specs.Wishes.{wish_of, wanted, is_deleted}
-
-abbrev pub is_extended : Role → Bool
-is_extended TheExtended = true
-is_extended _ = false
 
 -- what is wrong with a wish that stands behind the earlier ones
 abbrev pub wish_fault : List Part → List Wish → Wish → Option NoPlan

@@ -1,9 +1,11 @@
 pub mod Alignment
+pub mod Roles
 pub mod Tables
+pub mod Source
 pub mod Size
 pub mod Wishes
 pub mod Faults
 pub mod Layouts
 pub mod Plans
 pub mod Refusals
-pub mod Served
+pub mod inside

@@ -1,12 +1,16 @@
 -- What the wishes make of each part of the source.
-use Rattle.std.specs.Prelude.{ℕ, ◌-◌, ◌*◌, Bool, true, false, not, ◌&&◌, nat_lt, ◌==◌, if◌then◌else◌, List, map, filter, count_by, find, Option, Some, None}
+use Rattle.std.specs.Prelude.{ℕ, ◌-◌, ◌*◌, Bool, true, false, not, ◌&&◌, ◌||◌, nat_lt, ◌==◌, if◌then◌else◌, List, map, filter, count_by, find, Option, Some, None}
+use Rattle.std.specs.List.{list_any}
 use Rattle.layout_plan.specs.declared.part.Part.{Part}
 use Rattle.layout_plan.specs.declared.part.Fate.{Fate}
-use Rattle.layout_plan.specs.declared.part.Fate.TheVariants.{Kept, Resized, Ignored}
+use Rattle.layout_plan.specs.declared.part.Fate.TheVariants.{Kept, Resized, Ignored, Extended as Outer}
+use Rattle.layout_plan.specs.declared.part.Role.{Role}
+use Rattle.layout_plan.specs.declared.part.Role.TheVariants.{Extended}
 use Rattle.layout_plan.specs.declared.wish.Wish.{Wish}
 use Rattle.layout_plan.specs.declared.wish.What.{What}
 use Rattle.layout_plan.specs.declared.wish.What.TheVariants.{Expand, Shrink, Resize, Force, Delete, Ignore}
 use Rattle.layout_plan.specs.declared.wish.Size.TheVariants.{Bytes}
+use Rattle.layout_plan.specs.Roles.{is_extended, is_logical, same_class}
 use Rattle.layout_plan.specs.Size.{wanted_sectors}
 
 -- whether a wish is that a part takes what the others leave over, or gives up what they lack
@@ -28,11 +32,12 @@ settle sectors wish = record { place = wish.place; part = wish.part; what = sett
 abbrev pub settled : ℕ → List Wish → List Wish
 settled sectors wishes = map (settle sectors) wishes
 
--- the first wish that names the part of that number
+-- what a wish is
 abbrev pub what_of : Option Wish → Option What
 what_of None = None
 what_of (Some wish) = Some wish.what
 
+-- what the first wish that names the part of that number is
 abbrev pub wish_of : List Wish → ℕ → Option What
 wish_of wishes number = what_of (find (λ (wish : Wish). wish.part == number) wishes)
 
@@ -63,18 +68,32 @@ is_delete _ = false
 abbrev pub is_deleted : List Wish → Part → Bool
 is_deleted wishes part = is_delete (wish_of wishes part.number)
 
+-- whether a logical partition is left
+unfoldable pub keeps_logical : List Wish → List Part → Bool
+keeps_logical wishes parts = list_any (λ (part : Part). is_logical part.role && not (is_deleted wishes part)) parts
+
+-- whether a part isn't made: it is deleted, or it is the extended one and no logical one is left
+abbrev pub is_gone : List Wish → List Part → Part → Bool
+is_gone wishes parts part = is_deleted wishes part || (is_extended part.role && not (keeps_logical wishes parts))
+
 -- the parts that are made, in their order
 abbrev pub remaining : List Wish → List Part → List Part
-remaining wishes parts = filter (λ part. not (is_deleted wishes part)) parts
+remaining wishes parts = filter (λ part. not (is_gone wishes parts part)) parts
 
--- the number on the target of the part of that number: less by the deleted parts of lower numbers
-abbrev pub number_of : List Wish → List Part → ℕ → ℕ
-number_of wishes parts number = number - count_by (λ part. is_deleted wishes part && nat_lt part.number number) parts
+-- whether a part that isn't made has a lower number of the same class
+abbrev pub makes_room : List Wish → List Part → Part → Part → Bool
+makes_room wishes parts part other =
+    same_class part other && (nat_lt other.number part.number && is_gone wishes parts other)
+
+-- the number of a part on the target: less by those of lower numbers of its class that aren't made
+abbrev pub number_of : List Wish → List Part → Part → ℕ
+number_of wishes parts part = part.number - count_by (makes_room wishes parts part) parts
 
 -- what becomes of a part whose length was old and is new
-abbrev pub fate_under : Option What → ℕ → ℕ → Fate
-fate_under (Some Ignore) old new = Ignored
-fate_under _ old new = if new == old then Kept else Resized
+abbrev pub fate_under : Role → Option What → ℕ → ℕ → Fate
+fate_under Extended what old new = Outer
+fate_under _ (Some Ignore) old new = Ignored
+fate_under _ _ old new = if new == old then Kept else Resized
 
 abbrev pub fate_of : List Wish → Part → Fate
-fate_of wishes part = fate_under (wish_of wishes part.number) part.count (wanted wishes part)
+fate_of wishes part = fate_under part.role (wish_of wishes part.number) part.count (wanted wishes part)

@@ -1,6 +1,6 @@
 //! The partition that takes what is left over.
 ghost use Rattle.std.specs.Prelude.{◌≡◌, ℕ, ◌+◌, ◌^◌, ◌<◌, ◌≤◌, ◌↔◌, true, IsTrue, MatchOption};
-ghost use Rattle.layout_plan.specs.Plans.{IsExtra, IsLeastFree, is_taken};
+ghost use Rattle.layout_plan.specs.Plans.{AllTaken, IsExtra, IsLeastFree, is_taken};
 ghost use Rattle.layout_plan.specs.Tables.{most_numbers};
 
 use crate::alignment::next_multiple;
@@ -30,7 +30,7 @@ fn has_number(placed: &[Placed], number: u32) -> bool
 /// The least number from 1 to `most` that no partition has.
 fn least_free(placed: &[Placed], most: u32) -> Option<u32>
     requires { most < 2 ^ 31 }
-    ensures { MatchOption result ((number : ℕ) → 1 ≤ number → number ≤ most → is_taken placed.now number ≡ true) (λ number. IsLeastFree most placed.now number) }
+    ensures { MatchOption result (AllTaken most placed.now) (IsLeastFree most placed.now) }
 {
     for number in 1..most + 1 {
         if !has_number(placed, number) {

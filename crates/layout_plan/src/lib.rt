@@ -2,8 +2,8 @@
 //!
 //! It promises upwards: [`plan`] gives a plan exactly where the layout of the parts fits the target. It says
 //! where each part comes to stand, and what is made of the sectors that are left over, or else why there is no
-//! plan. The partitions of a plan lie apart, behind the table and before the limit. So far it serves the slots
-//! of an MBR, with all wishes.
+//! plan. The partitions of a plan lie apart, behind the table and before the limit, the logical ones inside the
+//! extended one. It serves valid tables of both kinds, with all wishes.
 //!
 //! It stands on disk_base alone, and touches no disk: a plan is a function of numbers. Lengths and places
 //! are in sectors of 512 bytes, unless a name says bytes.
@@ -14,11 +14,14 @@ mod extra;
 mod fault;
 mod flexing;
 mod laying;
+mod line;
 mod part;
 mod places;
 mod planned;
 mod planner;
+mod settling;
 mod sizing;
+mod task;
 mod wish;
 mod wishing;
 
@@ -31,3 +34,5 @@ pub use wish::{Layout, Size, What, Wish};
 
 #[cfg(test)]
 mod tests;
+#[cfg(test)]
+mod wider_tests;

@@ -1,4 +1,6 @@
 //! The partitions of a source, and where a plan places them.
+ghost use Rattle.std.specs.Prelude.{◌≡◌};
+ghost use Rattle.layout_plan.specs.Roles.{is_extended, is_logical, same_class};
 
 /// The kind of a partition table.
 #[derive(Clone, Copy, Debug, PartialEq, Eq)]
@@ -16,6 +18,22 @@ pub enum Role {
     Logical,
 }
 
+impl Role {
+    /// Whether it is the extended slot.
+    pub(crate) fn is_extended(self) -> bool
+        ensures { result ≡ is_extended self }
+    {
+        matches!(self, Role::Extended)
+    }
+
+    /// Whether it is a logical partition.
+    pub(crate) fn is_logical(self) -> bool
+        ensures { result ≡ is_logical self }
+    {
+        matches!(self, Role::Logical)
+    }
+}
+
 /// A partition of the source, in sectors; `content` is how many of them its content needs.
 #[derive(Clone, Copy, Debug, PartialEq, Eq)]
 pub struct Part {
@@ -24,6 +42,19 @@ pub struct Part {
     pub start: u64,
     pub count: u64,
     pub content: u64,
+}
+
+impl Part {
+    /// Whether another part is numbered with this one.
+    pub(crate) fn is_of_class(&self, other: &Part) -> bool
+        ensures { result ≡ same_class self.now other.now }
+    {
+        if self.role.is_logical() {
+            other.role.is_logical()
+        } else {
+            !other.role.is_logical()
+        }
+    }
 }
 
 /// A partition of the target, in sectors. `from` is its number in the source, or 0 for one that the source

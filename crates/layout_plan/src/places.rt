@@ -1,59 +1,88 @@
 //! What a plan makes of each part.
-ghost use Rattle.std.specs.Prelude.{◌≡◌, ℕ, ◌^◌, ◌<◌, ◌≤◌, length, slice_index_or, All, AllPairs, Contains, IfOk};
+ghost use Rattle.std.specs.Prelude.{◌≡◌, ◌≢◌, ℕ, ◌^◌, ◌≤◌, true, length, AllPairs, Contains, IfOk};
 ghost use Rattle.layout_plan.specs.declared.part.Part.{Part};
-ghost use Rattle.layout_plan.specs.declared.part.Placed.{Placed};
-ghost use Rattle.layout_plan.specs.Plans.{IsPlaced, StandsAt};
-ghost use Rattle.layout_plan.specs.Wishes.{number_of};
+ghost use Rattle.layout_plan.specs.Plans.{IsLogicalEnd, StandsAt};
+ghost use Rattle.layout_plan.specs.Roles.{has_logical, is_extended};
+ghost use Rattle.layout_plan.specs.Wishes.{remaining};
+ghost use Rattle.layout_plan.specs.inside.Tasks.{EndsBehind, HasLengthIn, IsLaidOut, Makes, MakesAll};
 
 use crate::laying::Laid;
-use crate::part::{Part, Placed};
-use crate::sizing::{fate_of, number_of, wanted};
-use crate::wish::Wish;
+use crate::line::Spot;
+use crate::part::{Part, Placed, Role};
+use crate::sizing::{fate_of, number_of, remaining, wanted};
+use crate::task::Task;
 use std::alloc::{AllocError, Global};
 
 /// Where the part comes to stand.
-fn start_of(laid: &[Part], starts: &[u64], part: &Part) -> u64
-    requires rising { AllPairs (λ (before after : Part). before.start < after.start) laid.now }
-    requires as_many { length starts.now ≡ length laid.now }
+fn spot_of(laid: &[Part], spots: &[Spot], part: &Part) -> Spot
+    requires other_numbers { AllPairs (λ (one other : Part). one.number ≢ other.number) laid.now }
+    requires as_many { length spots.now ≡ length laid.now }
     requires there { Contains laid.now part.now }
-    ensures { StandsAt laid.now starts.now part.now result }
+    ensures { StandsAt laid.now spots.now part.now result }
 {
     for (place, other) in laid.iter().enumerate() {
-        if other.start == part.start {
-            return starts[place];
+        if other.number == part.number {
+            return spots[place];
         }
     }
     // The part is there, so that the loop has found it.
-    0
+    unreachable!()
+}
+
+/// Where the last of the logical partitions ends.
+fn logical_end(laid: &[Part], spots: &[Spot]) -> u64
+    requires some { has_logical laid.now ≡ true }
+    requires as_many { length spots.now ≡ length laid.now }
+    ensures { IsLogicalEnd laid.now spots.now result }
+{
+    let mut last = 0;
+    for (place, part) in laid.iter().enumerate() {
+        if part.role.is_logical() {
+            last = spots[place].end;
+        }
+    }
+    last
+}
+
+/// The length of a part that starts there.
+fn length_of(laid: &Laid, part: &Part, start: u64) -> u64
+    requires small { part.now.count ≤ 2 ^ 31 }
+    requires as_many { length laid.now.spots.items ≡ length laid.now.parts.items }
+    requires some { is_extended part.now.role ≡ true → has_logical laid.now.parts.items ≡ true }
+    requires around { is_extended part.now.role ≡ true → EndsBehind laid.now start }
+    ensures { HasLengthIn laid.now part.now start result }
+{
+    match part.role {
+        Role::Extended => logical_end(&laid.parts, &laid.spots) - start,
+        Role::Slot | Role::Logical => wanted(&laid.wishes, part),
+    }
+}
+
+/// What is made of a part that remains.
+fn placed(task: &Task, laid: &Laid, part: &Part) -> Placed
+    requires laid { IsLaidOut task.now laid.now.sectors laid.now }
+    requires there { Contains (remaining laid.now.wishes.items task.now.parts.now) part.now }
+    ensures { Makes task.now laid.now part.now result }
+{
+    let spot = spot_of(&laid.parts, &laid.spots, part);
+    Placed {
+        from: part.number,
+        number: number_of(&laid.wishes, task.parts, part),
+        ebr: spot.ebr,
+        start: spot.start,
+        count: length_of(laid, part, spot.start),
+        fate: fate_of(&laid.wishes, part),
+    }
 }
 
 /// What is made of each of the parts that remain.
-pub fn place(
-    alloc: Global,
-    wishes: &[Wish],
-    parts: &[Part],
-    rest: &[Part],
-    laid: &Laid,
-) -> Result<Vec<Placed>, AllocError>
-    requires small { All (λ (part : Part). part.count ≤ 2 ^ 31) rest.now }
-    requires few { length parts.now ≤ 128 }
-    requires rising { AllPairs (λ (before after : Part). before.start < after.start) laid.now.parts.items }
-    requires as_many { length laid.now.starts.items ≡ length laid.now.parts.items }
-    requires there { All (Contains laid.now.parts.items) rest.now }
-    ensures as_many { IfOk result (λ placed. length placed.items ≡ length rest.now) }
-    ensures each { IfOk result (λ placed. (k : ℕ) (p : Part) (q : Placed) → k < length rest.now → IsPlaced wishes.now (number_of wishes.now parts.now (slice_index_or rest.now k p).number) laid.now.parts.items laid.now.starts.items (slice_index_or rest.now k p) (slice_index_or placed.items k q)) }
+pub fn place(alloc: Global, task: &Task, laid: &Laid) -> Result<Vec<Placed>, AllocError>
+    requires { IsLaidOut task.now laid.now.sectors laid.now }
+    ensures { IfOk result (λ all. MakesAll task.now laid.now all.items) }
 {
-    let mut placed = Vec::new(alloc);
-    for part in rest {
-        let start = start_of(&laid.parts, &laid.starts, part);
-        placed.push(Placed {
-            from: part.number,
-            number: number_of(wishes, parts, part.number),
-            ebr: 0,
-            start,
-            count: wanted(wishes, part),
-            fate: fate_of(wishes, part),
-        })?;
+    let mut all = Vec::new(alloc);
+    for part in &remaining(alloc, &laid.wishes, task.parts)? {
+        all.push(placed(task, laid, part))?;
     }
-    Ok(placed)
+    Ok(all)
 }

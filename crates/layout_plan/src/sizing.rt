@@ -1,15 +1,16 @@
 //! The lengths that wishes ask for.
 ghost use Rattle.std.specs.Prelude.{◌≡◌, ℕ, ◌*◌, ◌^◌, ◌≤◌, length, map, All, IfOk};
+ghost use Rattle.layout_plan.specs.declared.line.Piece.{Piece};
 ghost use Rattle.layout_plan.specs.declared.part.Part.{Part};
+ghost use Rattle.layout_plan.specs.Plans.{piece_of};
 ghost use Rattle.layout_plan.specs.Size.{wanted_sectors};
-ghost use Rattle.layout_plan.specs.Wishes.{asked_length, fate_of, is_delete, is_deleted, number_of, remaining, wanted, wish_of};
+ghost use Rattle.layout_plan.specs.Wishes.{asked_length, fate_of, is_delete, is_deleted, is_gone, keeps_logical, makes_room, number_of, remaining, wanted, wish_of};
 
+use crate::line::Piece;
 use crate::part::{Fate, Part};
 use crate::wish::{Size, What, Wish};
+use disk_base::SECTOR;
 use std::alloc::{AllocError, Global};
-
-/// The bytes of a sector.
-const SECTOR: u64 = 512;
 
 /// So many hundredths of a length, times 100.
 fn hundredths(old: u64, percent: u32) -> u64
@@ -27,9 +28,9 @@ fn sectors_of(old: u64, size: Size) -> u64
     ensures few { result ≤ 10 ^ 17 }
 {
     match size {
-        Size::Bytes(bytes) => bytes.div_ceil(SECTOR),
-        Size::More(bytes) => old + bytes.div_ceil(SECTOR),
-        Size::Less(bytes) => old.saturating_sub(bytes / SECTOR),
+        Size::Bytes(bytes) => bytes.div_ceil(SECTOR as u64),
+        Size::More(bytes) => old + bytes.div_ceil(SECTOR as u64),
+        Size::Less(bytes) => old.saturating_sub(bytes / SECTOR as u64),
         Size::Percent(percent) => hundredths(old, percent).div_ceil(100),
         Size::MorePercent(percent) => old + hundredths(old, percent).div_ceil(100),
         Size::LessPercent(percent) => old.saturating_sub(hundredths(old, percent) / 100),
@@ -72,40 +73,67 @@ pub fn is_deleted(wishes: &[Wish], part: &Part) -> bool
     matches!(wish_of(wishes, part.number), Some(What::Delete))
 }
 
+/// Whether a logical partition is left.
+#[tactic(auto, unfolding(crate::specs::Wishes::keeps_logical))]
+fn keeps_logical(wishes: &[Wish], parts: &[Part]) -> bool
+    ensures { result ≡ keeps_logical wishes.now parts.now }
+{
+    parts
+        .iter()
+        .any(|part| part.role.is_logical() && !is_deleted(wishes, part))
+}
+
+/// Whether a part isn't made: it is deleted, or it is the extended one and no logical one is left.
+fn is_gone(wishes: &[Wish], parts: &[Part], part: &Part) -> bool
+    ensures { result ≡ is_gone wishes.now parts.now part.now }
+{
+    is_deleted(wishes, part) || part.role.is_extended() && !keeps_logical(wishes, parts)
+}
+
 /// The parts that are made, in their order.
 pub fn remaining(alloc: Global, wishes: &[Wish], parts: &[Part]) -> Result<Vec<Part>, AllocError>
     ensures { IfOk result (λ rest. rest.items ≡ remaining wishes.now parts.now) }
 {
     parts
         .iter()
-        .filter(|part| !is_deleted(wishes, part))
+        .filter(|part| !is_gone(wishes, parts, part))
         .copied()
         .collect(alloc)
 }
 
-/// The number on the target of the part of that number.
-pub fn number_of(wishes: &[Wish], parts: &[Part], number: u32) -> u32
+/// Whether another part isn't made that has a lower number of the class of this one.
+fn makes_room(wishes: &[Wish], parts: &[Part], part: &Part, other: &Part) -> bool
+    ensures { result ≡ makes_room wishes.now parts.now part.now other.now }
+{
+    part.is_of_class(other) && other.number < part.number && is_gone(wishes, parts, other)
+}
+
+/// The number of a part on the target.
+pub fn number_of(wishes: &[Wish], parts: &[Part], part: &Part) -> u32
     requires { length parts.now ≤ 128 }
-    ensures { result ≡ number_of wishes.now parts.now number }
+    ensures { result ≡ number_of wishes.now parts.now part.now }
 {
     let gone = parts
         .iter()
-        .filter(|part| is_deleted(wishes, part) && part.number < number)
+        .filter(|other| makes_room(wishes, parts, part, other))
         .count();
-    number.saturating_sub(gone as u32)
+    part.number.saturating_sub(gone as u32)
 }
 
-/// The lengths that the parts shall have.
-pub fn lengths_of(alloc: Global, wishes: &[Wish], parts: &[Part]) -> Result<Vec<u64>, AllocError>
+/// The parts as they are laid out, with the lengths that they shall have.
+pub fn pieces_of(alloc: Global, wishes: &[Wish], parts: &[Part]) -> Result<Vec<Piece>, AllocError>
     requires { All (λ (part : Part). part.count ≤ 2 ^ 31) parts.now }
-    ensures lengths { IfOk result (λ lengths. lengths.items ≡ map (wanted wishes.now) parts.now) }
-    ensures few { IfOk result (λ lengths. All (λ (length : ℕ). length ≤ 10 ^ 17) lengths.items) }
+    ensures pieces { IfOk result (λ pieces. pieces.items ≡ map (piece_of wishes.now) parts.now) }
+    ensures few { IfOk result (λ pieces. All (λ (piece : Piece). piece.count ≤ 10 ^ 17) pieces.items) }
 {
-    let mut lengths = Vec::new(alloc);
+    let mut pieces = Vec::new(alloc);
     for part in parts {
-        lengths.push(wanted(wishes, part))?;
+        pieces.push(Piece {
+            role: part.role,
+            count: wanted(wishes, part),
+        })?;
     }
-    Ok(lengths)
+    Ok(pieces)
 }
 
 /// What becomes of a part that is made.
@@ -113,6 +141,9 @@ pub fn fate_of(wishes: &[Wish], part: &Part) -> Fate
     requires { part.now.count ≤ 2 ^ 31 }
     ensures { result ≡ fate_of wishes.now part.now }
 {
+    if part.role.is_extended() {
+        return Fate::Extended;
+    }
     match wish_of(wishes, part.number) {
         Some(What::Ignore) => Fate::Ignored,
         _ if wanted(wishes, part) == part.count => Fate::Kept,

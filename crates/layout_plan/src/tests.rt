@@ -97,6 +97,12 @@ fn lays_out_by_start(rt: HostRuntime) -> Result<(), Fail> {
         [kept(1, 1, 2176, 100), kept(2, 2, 2048, 100)].as_slice()
     );
     assert_eq!(rt; planned.extra(), Some(kept(0, 3, 2304, 63232)));
+    Ok(())
+}
+
+#[test]
+fn aligns_the_first_too(rt: HostRuntime) -> Result<(), Fail> {
+    let parts = [slot(1, 8192, 100), slot(2, 2048, 100)];
     let always = Layout {
         always: true,
         ..LAYOUT

@@ -3,18 +3,13 @@ ghost use Rattle.std.specs.Prelude.{◌≡◌, ℕ, ◌^◌, ◌<◌, ◌≤◌,
 ghost use Rattle.std.specs.List.{list_any};
 ghost use Rattle.layout_plan.specs.declared.part.Part.{Part};
 ghost use Rattle.layout_plan.specs.declared.wish.Wish.{Wish};
-ghost use Rattle.layout_plan.specs.Faults.{AreAllowed, IsFirstBadLength, IsFirstBadWish, is_extended, length_fault, wish_fault, would_cut};
+ghost use Rattle.layout_plan.specs.Roles.{is_extended};
+ghost use Rattle.layout_plan.specs.Faults.{AreAllowed, IsFirstBadLength, IsFirstBadWish, length_fault, wish_fault, would_cut};
 
 use crate::fault::NoPlan;
-use crate::part::{Part, Role};
+use crate::part::Part;
 use crate::sizing::{is_deleted, wanted, wish_of};
 use crate::wish::{What, Wish};
-
-fn is_extended(role: Role) -> bool
-    ensures { result ≡ is_extended role }
-{
-    matches!(role, Role::Extended)
-}
 
 /// Whether a part has that number.
 fn has_part(parts: &[Part], number: u32) -> bool
@@ -29,7 +24,7 @@ fn has_extended(parts: &[Part], number: u32) -> bool
 {
     parts
         .iter()
-        .any(|part| part.number == number && is_extended(part.role))
+        .any(|part| part.number == number && part.role.is_extended())
 }
 
 /// Whether a wish names the part of that number.

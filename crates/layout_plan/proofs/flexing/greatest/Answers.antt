@@ -4,6 +4,6 @@ use Rattle.layout_plan.proofs.flexing.greatest.Goals as goal
 
 pub returns-clause-greatest : goal.returns-clause-greatest
 returns-clause-greatest c =
+    let task = c.args.task.now in
     let found = c.loop-fitting.invariant in
-    greatest_is c.args.kind c.args.parts.now c.args.wishes.now c.args.layout.now c.args.limit c.loop-fitting.fitting c.loop-fitting.too_many
-    found.fits found.many (omega arith)
+    greatest_is task.kind task.parts.now task.wishes.now task.layout.now task.limit c.loop-fitting.fitting c.loop-fitting.too_many found.fits found.many (omega arith)

@@ -1,32 +1,47 @@
--- The parts that remain are few, small and start at different sectors.
-use Rattle.std.proofs.Common.{◌≢◌, List, length, ap, arith, subst, sym, All}
+-- The parts that remain are few and small.
+use Rattle.std.proofs.Common.{◌≡◌, ◌∙◌, List, map, sym, subst, arith, refl, IsPermutation}
 use Rattle.std.proofs.lemmas.List.{length-map}
-use Rattle.std.proofs.lemmas.List.Sorted.{length_permutation}
+use Rattle.layout_plan.specs.declared.line.Piece.{Piece}
 use Rattle.layout_plan.specs.declared.part.Part.{Part}
-use Rattle.layout_plan.specs.Served.{IsServedPart}
-use Rattle.layout_plan.specs.Wishes.{wanted}
-use Rattle.layout_plan.proofs.Slots.{few_remain, in_turn, served_remain, small_parts}
+use Rattle.layout_plan.specs.Layouts.{IsLayout}
+use Rattle.layout_plan.specs.Plans.{piece_of}
+use Rattle.layout_plan.specs.Wishes.{settled}
+use Rattle.layout_plan.proofs.Remains.{few_laid, laid_parts, small_part}
+use Rattle.layout_plan.proofs.Settled.{remaining_stays}
 use Rattle.layout_plan.proofs.laying.lay.Goals as goal
 
-pub by_start-requires : goal.by_start-requires
-by_start-requires c =
-    rw c.requires.rest (in_turn (λ (one other : Part). one.start ≢ other.start) c.args.wishes.now c.args.parts.now c.requires.served.other_starts)
-
-pub lengths_of-requires : goal.lengths_of-requires
-lengths_of-requires c =
-    let Served : List Part → Type 0 = λ parts. All IsServedPart parts in
-    let served = subst Served (sym c.requires.rest) (served_remain c.args.wishes.now c.args.parts.now c.requires.served.each) in
-    rw c.deref.ensures.value (small_parts c.args.rest.now c.in_ok-laid.laid.items served c.in_ok-laid.ensures.same_parts)
+pub pieces_of-requires : goal.pieces_of-requires
+pieces_of-requires c =
+    let task = c.args.task.now in
+    let laid = c.in_ok-parts.parts.items in
+    let each = laid_parts task.kind task.wishes.now task.parts.now laid task.source c.in_ok-parts.ensures.same_parts in
+    rw c.deref-2.ensures.value (λ k d within. small_part task.kind _ (each k d within))
 
 pub lay_out-requires-clause-few : goal.lay_out-requires-clause-few
 lay_out-requires-clause-few c =
-    let laid = c.in_ok-laid.laid.items in
-    let many = ap (λ (parts : List Part). length parts) c.requires.rest in
-    rw (c.deref-2.ensures.value, c.in_ok-lengths.ensures.lengths, c.deref.ensures.value)
-    (omega (
-      arith,
-      few_remain c.args.wishes.now c.args.parts.now c.requires.served.each c.requires.served.by_number,
-      length_permutation c.args.rest.now laid c.in_ok-laid.ensures.same_parts,
-      length-map laid (wanted c.args.wishes.now),
-      many,
-    ))
+    let task = c.args.task.now in
+    let laid = c.in_ok-parts.parts.items in
+    rw (c.deref-3.ensures.value, c.in_ok-pieces.ensures.pieces, c.deref-2.ensures.value)
+    (omega (arith, length-map laid (piece_of c.deref.result.now), few_laid task.kind task.wishes.now task.parts.now laid task.source c.in_ok-parts.ensures.same_parts))
+
+pub returns : goal.returns
+returns c =
+    let task = c.args.task.now in
+    let laid = c.in_ok-parts.parts.items in
+    let all = settled c.args.sectors task.wishes.now in
+    let pieces : c.deref-3.result.now ≡ map (piece_of all) laid =
+    rw (c.deref-3.ensures.value, c.in_ok-pieces.ensures.pieces, c.deref-2.ensures.value, c.deref.ensures.value, c.in_ok-wishes.ensures) refl in
+    let Remain : List Part → Type 0 = λ rest. IsPermutation rest laid in
+    let Stand : List Piece → Type 0 = λ pieces. IsLayout task.layout.now.align c.begin.result pieces c.in_ok-line.line.spots.items in
+    record {
+      same_sectors = refl;
+      same_wishes = c.in_ok-wishes.ensures;
+      order = record {
+        begin = c.begin.result;
+        the_remaining = subst Remain (sym (remaining_stays c.args.sectors task.wishes.now task.parts.now)) c.in_ok-parts.ensures.same_parts;
+        in_turn = c.in_ok-parts.ensures.in_turn;
+        begins = c.begin.ensures.begins;
+        stand = subst Stand pieces (rw c.from-align.ensures at c.in_ok-line.ensures.spots);
+      };
+      is_last = c.in_ok-line.ensures.last ∙ rw c.floor.ensures refl;
+    }

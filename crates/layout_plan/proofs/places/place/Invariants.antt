@@ -1,5 +1,5 @@
-use Rattle.layout_plan.proofs.Slots.{ArePlacedSoFar}
+use Rattle.layout_plan.proofs.Placing.{ArePlacedSoFar}
 use Rattle.layout_plan.proofs.places.place.Given as goal
 
 abbrev pub invariant-loop-part : goal.invariant-loop-part
-invariant-loop-part l = ArePlacedSoFar l.wishes l.parts l.rest l.laid.parts.items l.laid.starts.items l.part-index l.placed.items
+invariant-loop-part l = ArePlacedSoFar l.laid.wishes.items l.task.parts.now l.part-items l.laid.parts.items l.laid.spots.items l.part-index l.all.items

@@ -1,5 +1,0 @@
-use Rattle.layout_plan.proofs.Starts.{is_the_part}
-use Rattle.layout_plan.proofs.places.start_of.Goals as goal
-
-pub returns-then-other-part : goal.returns-then-other-part
-returns-then-other-part c = is_the_part c.args.laid.now c.args.starts.now c.args.part.now c.loop-place.place _ c.requires.rising c.requires.there c.loop-place-test.true c.if-other-part.true
