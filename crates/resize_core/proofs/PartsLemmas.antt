@@ -1,16 +1,18 @@
 -- The partitions of a table's slots, slot by slot.
+use Rattle.std.proofs.lemmas.Bool.{false≢true}
 use Rattle.std.proofs.lemmas.Bool.Decides.{nat_tests}
 use Rattle.std.proofs.lemmas.List.Elements.{All-cons, All-weaker}
 use Rattle.std.proofs.lemmas.List.Kept.{AllPairs-cons}
-use Rattle.std.proofs.Common.{◌≡◌, ℕ, ◌+◌, ◌<◌, ◌≤◌, List, [], ◌∷◌, length, arith, refl, ◌∙◌, sym, ap, Bool, true, false, slice_index_or, if◌then◌else◌, All, AllPairs, suc, nat_lt, ◌&&◌, ◌^◌, subst}
+use Rattle.std.proofs.Common.{◌≡◌, ℕ, ◌+◌, ◌<◌, ◌≤◌, List, [], ◌∷◌, length, arith, refl, ◌∙◌, sym, ap, Bool, true, false, slice_index_or, if◌then◌else◌, All, AllPairs, suc, nat_lt, ◌&&◌, ◌||◌, ◌^◌, subst}
 use Rattle.layout_plan.specs.declared.part.Kind.TheVariants.{Mbr}
 use Rattle.layout_plan.specs.declared.part.Part.{Part}
-use Rattle.layout_plan.specs.Served.{IsServed, IsServedPart}
+use Rattle.layout_plan.specs.Plans.{NoneHollow}
+use Rattle.layout_plan.specs.Roles.{is_extended, is_logical}
+use Rattle.layout_plan.specs.Source.{IsPart, IsSource}
 use Rattle.mbr_table.specs.declared.slot.Slot.{Slot}
 use Rattle.mbr_table.specs.Mbr.{IsSound}
 use Rattle.mbr_table.specs.Slot.{is_used, empty_slot}
 use Rattle.mbr_table.proofs.Tables.{used_bounds}
-use Rattle.resize_core.specs.Targets.{plain_layout}
 use Rattle.resize_core.specs.Parts.{part_of, parts_of, parts_from, share, LieApart}
 
 -- a part is that of a used slot, where the first slot has the number `first`
@@ -69,51 +71,41 @@ parts_rising first (one ∷ slots) = rising_with (is_used one) first one slots (
 pub used_some : (slot : Slot) → is_used slot ≡ true → 1 ≤ slot.count
 used_some slot used = grind (arith, nat_tests)
 
--- two used slots of one start share a sector
-pub same_start_meets : (one other : Slot) → is_used one ≡ true → is_used other ≡ true → one.start ≡ other.start → share one other ≡ true
-same_start_meets one other used other_used same =
-    let some = used_some one used in
-    let other_some = used_some other other_used in
-    let before : nat_lt one.start (other.start + other.count) ≡ true = grind (arith, nat_tests) in
-    let behind : nat_lt other.start (one.start + one.count) ≡ true = grind (arith, nat_tests) in
-    let both : (is_used one && is_used other) ≡ true = ap (λ b. b && is_used other) used ∙ ap (λ b. true && b) other_used in
-    ap (λ b. b && nat_lt one.start (other.start + other.count) && nat_lt other.start (one.start + one.count)) both
-    ∙ ap (λ b. true && b && nat_lt other.start (one.start + one.count)) before ∙ ap (λ b. true && true && b) behind
+-- the part of a slot is a slot
+pub not_extended : (first : ℕ) (slots : List Slot) (part : Part) → IsPartFrom first slots part → is_extended part.role ≡ false
+not_extended first slots part p = ap (λ (q : Part). is_extended q.role) p.is
 
--- the parts of a sound table whose slots lie apart are those of a plan that is served
-module _ (sectors : ℕ) (slots : List Slot) (sound : IsSound sectors slots) (few : sectors ≤ 2 ^ 31) (apart : LieApart slots) where
-  served_part : (part : Part) → IsPartFrom 1 slots part → IsServedPart part
-  served_part part p =
+not_logical : (first : ℕ) (slots : List Slot) (part : Part) → IsPartFrom first slots part → is_logical part.role ≡ false
+not_logical first slots part p = ap (λ (q : Part). is_logical q.role) p.is
+
+pub none_hollow : (slots : List Slot) → NoneHollow (parts_of slots)
+none_hollow slots = λ k d h is. absurd (false≢true (sym (not_extended 1 slots (slice_index_or (parts_of slots) k d) (parts_each 1 slots k d h)) ∙ is))
+
+-- the parts of a sound table are those of a plan
+module _ (sectors : ℕ) (slots : List Slot) (sound : IsSound sectors slots) (few : sectors ≤ 2 ^ 31) where
+  is_part : (part : Part) → IsPartFrom 1 slots part → IsPart Mbr part
+  is_part part p =
       let four = sound.four in
       let bounds = used_bounds sectors slots p.place sound (omega (arith, p.within)) p.used in
       let some = used_some (slice_index_or slots p.place empty_slot) p.used in
-      let Served : Part → Type 0 = λ q. IsServedPart q in
+      let Served : Part → Type 0 = λ q. IsPart Mbr q in
       subst Served (sym p.is) (record {
-        slot = refl;
-        numbered = omega arith;
-        low_number = omega (arith, p.within);
+        numbered = record { from_first = omega arith; to_last = omega (arith, p.within) };
         behind_table = bounds.0;
         some = some;
         named = omega (arith, bounds.1);
       })
 
-  other_start : (one other : Part) → IsPartFrom 1 slots one → IsPartFrom 1 slots other → one.number < other.number → one.start ≡ other.start → ⊥
-  other_start one other p q rises same =
-      let number : one.number ≡ 1 + p.place = ap (λ (part : Part). part.number) p.is in
-      let other_number : other.number ≡ 1 + q.place = ap (λ (part : Part). part.number) q.is in
-      let start : one.start ≡ (slice_index_or slots p.place empty_slot).start = ap (λ (part : Part). part.start) p.is in
-      let other_start : other.start ≡ (slice_index_or slots q.place empty_slot).start = ap (λ (part : Part). part.start) q.is in
-      apart p.place q.place (omega arith) q.within
-      (same_start_meets (slice_index_or slots p.place empty_slot) (slice_index_or slots q.place empty_slot) p.used q.used (sym start ∙ same ∙ other_start))
+  neither_extended : (one other : Part) → IsPartFrom 1 slots one → IsPartFrom 1 slots other → (is_extended one.role || is_extended other.role) ≡ false
+  neither_extended one other p q = ap (λ b. b || is_extended other.role) (not_extended 1 slots one p) ∙ not_extended 1 slots other q
 
-  pub parts_served : IsServed Mbr (parts_of slots) [] plain_layout
+  pub parts_served : IsSource Mbr (parts_of slots)
   parts_served = record {
-    an_mbr = refl;
-    each = All-weaker (IsPartFrom 1 slots) IsServedPart served_part (parts_of slots) (parts_each 1 slots);
+    each = All-weaker (IsPartFrom 1 slots) (IsPart Mbr) is_part (parts_of slots) (parts_each 1 slots);
     by_number = parts_rising 1 slots;
-    other_starts = λ i j d low high.
-        other_start (slice_index_or (parts_of slots) i d) (slice_index_or (parts_of slots) j d)
-        (parts_each 1 slots i d (omega arith)) (parts_each 1 slots j d high) (parts_rising 1 slots i j d low high);
-    some_align = omega arith;
-    small_align = omega arith;
+    other_starts = λ i j d low high is same.
+        false≢true (sym (neither_extended (slice_index_or (parts_of slots) i d) (slice_index_or (parts_of slots) j d)
+        (parts_each 1 slots i d (omega arith)) (parts_each 1 slots j d high)) ∙ is);
+    one_extended = λ i j d low high is. not_extended 1 slots (slice_index_or (parts_of slots) j d) (parts_each 1 slots j d high);
+    inside = λ k d h is. absurd (false≢true (sym (not_logical 1 slots (slice_index_or (parts_of slots) k d) (parts_each 1 slots k d h)) ∙ is));
   }

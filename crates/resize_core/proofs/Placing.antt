@@ -8,7 +8,11 @@ use Rattle.layout_plan.specs.declared.part.Part.{Part}
 use Rattle.layout_plan.specs.declared.part.Role.TheVariants.{Slot as TheSlot}
 use Rattle.layout_plan.specs.declared.part.Placed.{Placed}
 use Rattle.layout_plan.specs.declared.part.Fate.TheVariants.{Kept}
-use Rattle.layout_plan.specs.Plans.{Plan, IsInside, Apart}
+use Rattle.layout_plan.specs.declared.part.Kind.TheVariants.{Mbr}
+use Rattle.layout_plan.specs.declared.part.Role.{Role}
+use Rattle.layout_plan.specs.declared.part.Role.TheVariants.{Extended, Logical}
+use Rattle.layout_plan.specs.Plans.{Plan, IsInside, Apart, KeepApart, KeepApartAs, first_of, role_of}
+use Rattle.layout_plan.specs.Tables.{first_number}
 use Rattle.mbr_table.specs.declared.slot.Slot.{Slot}
 use Rattle.mbr_table.specs.Slot.{is_used, empty_slot, end_of}
 use Rattle.mbr_table.proofs.Tables.{used_bounds}
@@ -18,7 +22,7 @@ use Rattle.resize_core.specs.Parts.{parts_of}
 use Rattle.resize_core.specs.Placing.{IsPlacing}
 use Rattle.resize_core.specs.Targets.{IsNamed, source_slot, transfer_of, transfers_of, boot_end, most_boot}
 use Rattle.run_copy.specs.Copies.{IsBetween, WriteApart}
-use Rattle.resize_core.proofs.PartsLemmas.{IsPartFrom, parts_each}
+use Rattle.resize_core.proofs.PartsLemmas.{IsPartFrom, not_extended, parts_each}
 
 -- a placed partition comes from a used slot of the source, and keeps its length
 pub record IsFromSlot (source_sectors : ℕ) (slots : List Slot) (placed : Placed) : Type 0 where
@@ -51,6 +55,20 @@ nowhere = record { from = 0; number = 0; ebr = 0; start = 0; count = 0; fate = K
 
 no_part : Part
 no_part = record { number = 0; role = TheSlot; start = 0; count = 0; content = 0 }
+
+-- the first sector that a partition takes is its start, or comes before it
+first_before : (q : Placed) → q.ebr < q.start → first_of q ≤ q.start
+first_before q before = elim (q.ebr == 0) as (λ b. (if b then q.start else q.ebr) ≤ q.start) [ true ↦ omega arith | false ↦ omega (arith, before) ]
+
+-- partitions with the numbers of slots share no sector
+apart_as : (one other : Role) (p q : Placed) → first_number one ≤ p.number → first_number other ≤ q.number → p.number ≤ 4 → q.number ≤ 4 → KeepApartAs one other p q → Apart p q
+apart_as Logical other p q from other_from low other_low apart = absurd (omega (arith, from, low))
+apart_as TheSlot Logical p q from other_from low other_low apart = absurd (omega (arith, other_from, other_low))
+apart_as Extended Logical p q from other_from low other_low apart = absurd (omega (arith, other_from, other_low))
+apart_as TheSlot TheSlot p q from other_from low other_low apart = apart
+apart_as TheSlot Extended p q from other_from low other_low apart = apart
+apart_as Extended TheSlot p q from other_from low other_low apart = apart
+apart_as Extended Extended p q from other_from low other_low apart = apart
 
 module _ (source_sectors target_sectors : ℕ) (slots : List Slot) (plan : Plan) (placing : IsPlacing source_sectors target_sectors slots plan) where
   -- a part starts behind the table and ends with the source or before
@@ -88,7 +106,7 @@ module _ (source_sectors target_sectors : ℕ) (slots : List Slot) (plan : Plan)
       let order = placing.same_order in
       let within : k < length (parts_of slots) = omega (arith, order.as_many) in
       let each = order.each k no_part d within in
-      from_slot (slice_index_or plan.parts k d) (slice_index_or (parts_of slots) k no_part) each.0 each.2 (parts_each 1 slots k no_part within)
+      from_slot (slice_index_or plan.parts k d) (slice_index_or (parts_of slots) k no_part) each.0 (each.2 (not_extended 1 slots (slice_index_or (parts_of slots) k no_part) (parts_each 1 slots k no_part within))) (parts_each 1 slots k no_part within)
 
   few_target : target_sectors ≤ 2 ^ 31
   few_target = placing.is_plan.due.room.not_too_many
@@ -102,7 +120,7 @@ module _ (source_sectors target_sectors : ℕ) (slots : List Slot) (plan : Plan)
       let inside = placing.inside k d h in
       record { from_one = from.from_one; to_four = from.to_four; end_named = omega (arith, inside.before_limit, placing.limit, few_target) }
 
-  between : (placed : Placed) → IsFromSlot source_sectors slots placed → IsInside plan.limit placed → IsBetween source_sectors target_sectors (transfer_of slots placed)
+  between : (placed : Placed) → IsFromSlot source_sectors slots placed → IsInside Mbr plan.limit placed → IsBetween source_sectors target_sectors (transfer_of slots placed)
   between placed from inside = record {
     few_source = placing.few_source;
     few_target = few_target;
@@ -116,15 +134,34 @@ module _ (source_sectors target_sectors : ℕ) (slots : List Slot) (plan : Plan)
   transfer_at : (k : ℕ) (d : Transfer) → k < length plan.parts → slice_index_or (transfers_of slots plan) k d ≡ transfer_of slots (slice_index_or plan.parts k nowhere)
   transfer_at k d h = get_or-map (transfer_of slots) plan.parts k nowhere d h
 
-  write_apart : (p q : Placed) → Apart p q → WriteApart (transfer_of slots p) (transfer_of slots q)
-  write_apart p q apart = elim apart [ inl before ↦ inl (omega arith) | inr behind ↦ inr (omega arith) ]
+  low_number : (k : ℕ) (d : Placed) → k < length plan.parts → (slice_index_or plan.parts k d).number ≤ 4
+  low_number k d h =
+      let order = placing.same_order in
+      let each = order.each k no_part d (omega (arith, order.as_many)) in
+      let from = all_from_slots k d h in
+      omega (arith, each.0, each.1, from.to_four)
+
+  write_apart : (p q : Placed) → p.ebr < p.start → q.ebr < q.start → Apart p q → WriteApart (transfer_of slots p) (transfer_of slots q)
+  write_apart p q before other_before apart = elim apart [
+    | inl ahead ↦ inl (omega (arith, ahead, first_before q other_before))
+    | inr behind ↦ inr (omega (arith, behind, first_before p before))
+  ]
+
+  lie_apart : (i j : ℕ) → i < j → j < length plan.parts → Apart (slice_index_or plan.parts i nowhere) (slice_index_or plan.parts j nowhere)
+  lie_apart i j low high =
+      let first : i < length plan.parts = omega arith in
+      apart_as (role_of (slice_index_or plan.parts i nowhere)) (role_of (slice_index_or plan.parts j nowhere)) (slice_index_or plan.parts i nowhere) (slice_index_or plan.parts j nowhere)
+      (placing.numbers.each i nowhere first).from_first (placing.numbers.each j nowhere high).from_first (low_number i nowhere first) (low_number j nowhere high)
+      (placing.apart i j nowhere low high)
 
   all_apart : AllPairs WriteApart (transfers_of slots plan)
   all_apart i j d low high =
       let many : length (transfers_of slots plan) ≡ length plan.parts = length-map plan.parts (transfer_of slots) in
       let one = transfer_at i d (omega arith) in
       let other = transfer_at j d (omega arith) in
-      let apart = write_apart (slice_index_or plan.parts i nowhere) (slice_index_or plan.parts j nowhere) (placing.apart i j nowhere low (omega arith)) in
+      let within : j < length plan.parts = omega arith in
+      let apart = write_apart (slice_index_or plan.parts i nowhere) (slice_index_or plan.parts j nowhere)
+      (placing.inside i nowhere (omega arith)).record_before (placing.inside j nowhere within).record_before (lie_apart i j low within) in
       let First : Transfer → Type 0 = λ t. WriteApart t (transfer_of slots (slice_index_or plan.parts j nowhere)) in
       let Second : Transfer → Type 0 = λ t. WriteApart (slice_index_or (transfers_of slots plan) i d) t in
       subst Second (sym other) (subst First (sym one) apart)
@@ -145,7 +182,7 @@ module _ (source_sectors target_sectors : ℕ) (slots : List Slot) (plan : Plan)
   part_starts_positive = All-map (λ (start : ℕ). 1 ≤ start) (λ (part : Part). part.start) (parts_of slots) (λ k d h. (part_bounds k d h).0)
 
   placed_starts_positive : All (λ (start : ℕ). 1 ≤ start) placed_starts
-  placed_starts_positive = All-map (λ (start : ℕ). 1 ≤ start) (λ (placed : Placed). placed.start) plan.parts (λ k d h. (placing.inside k d h).behind_table)
+  placed_starts_positive = All-map (λ (start : ℕ). 1 ≤ start) (λ (placed : Placed). placed.start) plan.parts (λ k d h. omega (arith, (placing.inside k d h).record_before))
 
   -- what holds of a boot area's end, whether there are partitions or not
   pub record IsBoot (last : ℕ) : Type 0 where
@@ -191,7 +228,7 @@ module _ (source_sectors target_sectors : ℕ) (slots : List Slot) (plan : Plan)
     behind_table = omega arith;
     source = placing.some_source;
     target = omega (arith, some_target);
-    behind = λ k d h. (placing.inside k d h).behind_table;
+    behind = λ k d h. omega (arith, (placing.inside k d h).record_before);
   }
 
   boot_with : (none : Bool) → no_partition ≡ none → IsBoot (if none then 1 else least)

@@ -125,7 +125,7 @@ record IsSpare (sectors : ℕ) (parts : List Placed) (one : Placed) : Type 0 whe
   fit : IsFit sectors (extra_slot one)
 
 extra_spare : (sectors limit last : ℕ) (parts : List Placed) (extra : Option Placed) → sectors ≤ 2 ^ 31 → limit ≤ sectors
-    → IsExtra Mbr plain_layout last parts limit extra → IfSome extra (IsBehind parts limit) → IfSome extra (IsSpare sectors parts)
+    → IsExtra Mbr plain_layout last parts limit extra → IfSome extra (IsBehind Mbr parts limit) → IfSome extra (IsSpare sectors parts)
 extra_spare sectors limit last parts None few inside is behind = tt
 extra_spare sectors limit last parts (Some one) few inside is behind =
     let enough : 20480 ≤ one.count = is.enough in
@@ -134,7 +134,7 @@ extra_spare sectors limit last parts (Some one) few inside is behind =
       from_one = is.number.from_one;
       to_four = is.number.up_to_most;
       free = is.number.free;
-      fit = used_fit sectors (extra_slot one) (ap (λ b. true && not b) some) refl behind.inside.behind_table (omega (arith, behind.inside.before_limit)) few;
+      fit = used_fit sectors (extra_slot one) (ap (λ b. true && not b) some) refl (omega (arith, behind.inside.record_before)) (omega (arith, behind.inside.before_limit)) few;
     }
 
 spare_fits : (sectors : ℕ) (parts : List Placed) (extra : Option Placed) → IfSome extra (IsSpare sectors parts) → IfSome extra (λ one. IsFit sectors (extra_slot one))
@@ -190,12 +190,12 @@ module _ (source_sectors target_sectors : ℕ) (slots : List Slot) (plan : Plan)
     | inr none ↦ sym (ap (λ b. b && is_extended (slice_index_or slots i empty_slot)) used) ∙ none
   ]
 
-  placed_fit : (placed : Placed) → IsFromSlot source_sectors slots placed → IsInside plan.limit placed → IsFit target_sectors (placed_slot slots placed)
+  placed_fit : (placed : Placed) → IsFromSlot source_sectors slots placed → IsInside Mbr plan.limit placed → IsFit target_sectors (placed_slot slots placed)
   placed_fit placed from inside =
       let four = placing.sound.four in
       let used : is_used (placed_slot slots placed) ≡ true = ap (λ n. not ((source_slot slots placed).kind == 0) && not (n == 0)) from.same_count ∙ from.used in
       used_fit target_sectors (placed_slot slots placed) used (not_extended (placed.from - 1) (omega (arith, from.to_four)) from.used)
-      inside.behind_table (omega (arith, inside.before_limit, placing.limit)) few_target
+      (omega (arith, inside.record_before)) (omega (arith, inside.before_limit, placing.limit)) few_target
 
   spare : IfSome plan.extra (IsSpare target_sectors plan.parts)
   spare = extra_spare target_sectors plan.limit _ plan.parts plan.extra few_target placing.limit placing.is_plan.is_extra placing.behind

@@ -61,10 +61,10 @@ lines_of_work source target work text prepared = record { table = prepared.table
 -- the head of a table that a disk has
 head_long : (image : List ℕ) (table : Table) → IsServedTable image table → length table.head ≡ 446
 head_long image table served =
-    let some : 0 < sectors_of image = served.own.is_table.some in
+    let some : 0 < sectors_of image = served.own.is_table.in_sector.some in
     let whole : 512 ≤ length image = omega arith in
     let long : length (bytes_at image (512 * 0) 512) ≡ 512 = length-bytes_at image (512 * 0) 512 (omega arith) in
-    ap length served.own.is_table.head ∙ length-bytes_at (sector image 0) 0 446 (omega (arith, long))
+    ap length served.own.is_table.in_sector.head ∙ length-bytes_at (sector image 0) 0 446 (omega (arith, long))
 
 -- work that is done on disks that hold what they held is the work that is due
 pub finished_of : (source source' target mid target' : List ℕ) (work : Work) (text : List ℕ) → source' ≡ source → mid ≡ target → IsPreparedWork source target work text

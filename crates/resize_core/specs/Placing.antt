@@ -1,7 +1,7 @@
 -- What is known of a plan for a sound table.
 use Rattle.std.specs.Prelude.{ℕ, ◌^◌, ◌≤◌, [], All, AllPairs, IfSome, List}
 use Rattle.layout_plan.specs.declared.part.Kind.TheVariants.{Mbr}
-use Rattle.layout_plan.specs.Plans.{Plan, IsPlan, IsSameOrder, IsInside, IsBehind, Apart}
+use Rattle.layout_plan.specs.Plans.{Plan, IsPlan, IsSameOrder, IsInside, IsBehind, AreNumbered, KeepApart}
 use Rattle.mbr_table.specs.declared.slot.Slot.{Slot}
 use Rattle.mbr_table.specs.Mbr.{IsSound}
 use Rattle.resize_core.specs.Parts.{parts_of}
@@ -13,7 +13,8 @@ pub record IsPlacing (source_sectors target_sectors : ℕ) (slots : List Slot) (
   pub sound : IsSound source_sectors slots
   pub is_plan : IsPlan Mbr (parts_of slots) [] plain_layout target_sectors plan
   pub same_order : IsSameOrder (parts_of slots) plan.parts
-  pub apart : AllPairs Apart plan.parts
-  pub inside : All (IsInside plan.limit) plan.parts
-  pub behind : IfSome plan.extra (IsBehind plan.parts plan.limit)
+  pub numbers : AreNumbered Mbr plan.parts
+  pub apart : AllPairs KeepApart plan.parts
+  pub inside : All (IsInside Mbr plan.limit) plan.parts
+  pub behind : IfSome plan.extra (IsBehind Mbr plan.parts plan.limit)
   pub limit : plan.limit ≤ target_sectors

@@ -1,7 +1,7 @@
 //! Making the work ready, before the first write.
 ghost use Rattle.std.specs.Prelude.{◌≡◌, ℕ, ◌+◌, ◌^◌, ◌<◌, ◌≤◌, All, AllPairs, IfSome, IfOk, IfErr, OnOk, []};
-ghost use Rattle.layout_plan.specs.Plans.{IsPlan, IsInside, IsBehind, IsSameOrder, Apart};
-ghost use Rattle.layout_plan.specs.Served.{IsServed};
+ghost use Rattle.layout_plan.specs.Plans.{IsPlan, AreNumbered, IsInside, IsBehind, IsSameOrder, KeepApart, NoneHollow};
+ghost use Rattle.layout_plan.specs.Source.{IsSource};
 ghost use Rattle.layout_plan.specs.declared.part.Kind.TheVariants.{Mbr as TheMbr};
 ghost use Rattle.mbr_table.specs.Mbr.{IsSound};
 ghost use Rattle.resize_core.specs.Parts.{parts_of, LieApart};
@@ -55,13 +55,15 @@ fn work(
 
 // The plan for the parts; want of memory is told apart from the plan's own refusals.
 fn plan_for(alloc: Global, parts: &[Part], sectors: u64) -> Result<Planned, MbrRefused>
-    requires { IsServed TheMbr parts.now [] plain_layout }
+    requires source { IsSource TheMbr parts.now }
+    requires none_hollow { NoneHollow parts.now }
     ensures plan { IfOk result (λ planned. IsPlan TheMbr parts.now [] plain_layout sectors planned) }
     ensures none { IfErr result (HasNoPlanFor sectors parts.now) }
     ensures same_order { IfOk result (λ planned. IsSameOrder parts.now planned.parts) }
-    ensures apart { IfOk result (λ planned. AllPairs Apart planned.parts) }
-    ensures inside { IfOk result (λ planned. All (IsInside planned.limit) planned.parts) }
-    ensures behind { IfOk result (λ planned. IfSome planned.extra (IsBehind planned.parts planned.limit)) }
+    ensures numbers { IfOk result (λ planned. AreNumbered TheMbr planned.parts) }
+    ensures apart { IfOk result (λ planned. AllPairs KeepApart planned.parts) }
+    ensures inside { IfOk result (λ planned. All (IsInside TheMbr planned.limit) planned.parts) }
+    ensures behind { IfOk result (λ planned. IfSome planned.extra (IsBehind TheMbr planned.parts planned.limit)) }
     ensures limit { IfOk result (λ planned. planned.limit ≤ sectors) }
 {
     match plan(alloc, Kind::Mbr, parts, &[], &PLAIN, sectors) {

@@ -1,11 +1,26 @@
 -- What copying piece by piece and transfer by transfer amounts to.
-use Rattle.std.proofs.lemmas.Bool.{cases_lt}
+use Rattle.std.proofs.lemmas.Bool.{cases_lt, false≢true}
+use Rattle.std.proofs.lemmas.Bool.Decides.{Decides-eqb}
+use Rattle.std.proofs.lemmas.List.Elements.{All-cons}
 use Rattle.std.proofs.lemmas.List.{get_or_default}
-use Rattle.std.proofs.Common.{◌≡◌, ℕ, ◌+◌, ◌-◌, ◌*◌, ◌/◌, ◌<◌, ◌≤◌, min, List, length, Bool, true, false, cond, ◌&&◌, arith, refl, ◌∙◌, sym, ap, subst, inl, inr, slice_index_or, AllPairs}
+use Rattle.std.proofs.Common.{◌≡◌, ℕ, ◌+◌, ◌-◌, ◌*◌, ◌/◌, ◌<◌, ◌≤◌, min, suc, List, [], ◌∷◌, length, Bool, true, false, cond, ◌&&◌, ◌==◌, All, arith, refl, ◌∙◌, sym, ap, subst, inl, inr, slice_index_or, AllPairs}
 use Rattle.disk_base.specs.Image.{with_bytes, sector, AgreesOutside}
 use Rattle.disk_base.proofs.Images.{agrees_refl, bytes_outside, agrees_with_bytes, length-bytes_at, sector_written, sector_before, sector_behind, sector_of_range}
 use Rattle.run_copy.specs.declared.transfer.Transfer.{Transfer}
 use Rattle.run_copy.specs.Copies.{all_zero, piece_of, is_left_out, due, put_of, IsOutside, IsCopied, AreCopied, OnlyWithin, WriteApart}
+
+both_of : (a b : Bool) → (a && b) ≡ true → (a ≡ true) × (b ≡ true)
+both_of true b is = (refl, is)
+both_of false b is = absurd (false≢true is)
+
+-- a piece is all zero where each of its bytes is
+pub zero_each : (xs : List ℕ) → all_zero xs ≡ true → All (λ (byte : ℕ). byte ≡ 0) xs
+zero_each [] is = λ k d h. absurd (omega arith)
+zero_each (x ∷ xs) is = let both = both_of (x == 0) (all_zero xs) is in All-cons (λ (byte : ℕ). byte ≡ 0) x xs ((Decides-eqb x 0).0 both.0) (zero_each xs both.1)
+
+pub zero_list : (xs : List ℕ) → All (λ (byte : ℕ). byte ≡ 0) xs → all_zero xs ≡ true
+zero_list [] all = refl
+zero_list (x ∷ xs) all = ap (λ b. b && all_zero xs) ((Decides-eqb x 0).1 (all 0 0 (omega arith))) ∙ zero_list xs (λ k d h. all (suc k) d (omega arith))
 
 -- what a loop over the target keeps: the source is only read, so much is done, and the target was used as it is said
 pub record Goes (reads within_count was_copied agrees uses stops : Type 0) : Type 0 where
