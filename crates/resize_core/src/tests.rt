@@ -285,9 +285,7 @@ fn kind_at(alloc: Global, disk: &MemDisk, call: u64, keep: u64) -> Result<Kind, 
 
 // The calls: attach, zeros and flush, the content, the boot area and flush, the table and flush.
 #[test]
-fn a_stop_leaves_the_target_as_it_was_without_a_table_or_done(
-    rt: HostRuntime,
-) -> Result<(), Fail> {
+fn a_stop_leaves_the_target_as_it_was_without_a_table_or_done(rt: HostRuntime) -> Result<(), Fail> {
     let alloc = rt.alloc();
     let lone = [slot(128, 2), EMPTY, EMPTY, EMPTY];
     let mut to = target(alloc, 130, &[])?;

@@ -422,7 +422,10 @@ fn placed(alloc: Global, image: &[u8], count: usize) -> Result<Vec<(u32, u8)>, A
     let mut list = Vec::new(alloc);
     for i in 0..count.min(4) {
         let bytes = part(image, 454 + 16 * i, 458 + 16 * i);
-        let start = bytes.iter().rev().fold(0u32, |sum, byte| (sum << 8) | u32::from(*byte));
+        let start = bytes
+            .iter()
+            .rev()
+            .fold(0u32, |sum, byte| (sum << 8) | u32::from(*byte));
         let first = image.get(512 * start as usize).copied().unwrap_or(0xFF);
         list.push((start, first))?;
     }
