@@ -1,15 +1,18 @@
 PREFIX = /usr/local
+DESTDIR =
+export PREFIX DESTDIR
 PROGRAM = crates/virt_top/out/virt_top
 
 .PHONY: build demo test install bench
 
-# Proves and builds the program.
+# Proves and builds the program, and looks whether what was built answers.
 build:
+	@command -v rt > /dev/null || { echo "make: there is no rt: README.md names the kit that is needed" >&2; exit 1; }
 	@echo "Proving and building the program. The first time this takes five to ten minutes, since every"
 	@echo "function is proved to meet its contract before it is compiled; build/build.log tells how far it is."
 	@mkdir -p build
 	@cd crates/virt_top && rt run -- virt-resize > ../../build/build.log 2>&1; test $$? -eq 9 || { tail -n 20 ../../build/build.log; exit 1; }
-	@test -x $(PROGRAM)
+	@test "$$($(PROGRAM) virt-sparsify 2>&1)" = 'virt-sparsify: not yet' || { echo "make: what was built doesn't answer" >&2; exit 1; }
 
 # Copies a sample disk to a larger one, and shows what became of it.
 demo: build
@@ -19,15 +22,12 @@ demo: build
 test:
 	.ci/run
 
-# Installs the program, the two commands and the manual below PREFIX.
+# Installs the program, the two commands and the manual below PREFIX, which may be a relative path.
 install: build
-	install -D -m 755 $(PROGRAM) $(DESTDIR)$(PREFIX)/libexec/virt_top
-	install -d $(DESTDIR)$(PREFIX)/bin
-	for command in virt-resize virt-sparsify; do \
-	    sed -e 's|^program=.*|program=$(PREFIX)/libexec/virt_top|' -e '/^\[ -x/d' bin/$$command > $(DESTDIR)$(PREFIX)/bin/$$command && \
-	    chmod 755 $(DESTDIR)$(PREFIX)/bin/$$command || exit 1; \
-	done
-	install -D -m 644 man/virt-resize.1 $(DESTDIR)$(PREFIX)/share/man/man1/virt-resize.1
+	install -D -m 755 $(PROGRAM) "$$DESTDIR$$PREFIX/libexec/virt_top"
+	install -D -m 755 bin/virt-resize "$$DESTDIR$$PREFIX/bin/virt-resize"
+	ln -sf virt-resize "$$DESTDIR$$PREFIX/bin/virt-sparsify"
+	install -D -m 644 man/virt-resize.1 "$$DESTDIR$$PREFIX/share/man/man1/virt-resize.1"
 
 # Times the program beside cp and dd.
 bench: build
