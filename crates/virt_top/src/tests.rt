@@ -412,8 +412,8 @@ fn each_stream_may_fail(rt: HostRuntime) -> Result<(), Fail> {
 
 // Puts a byte of its own, its number, into the first sector of each partition.
 fn mark(image: &mut [u8], slots: &[Slot]) {
-    for (i, (_, start, _)) in slots.iter().enumerate() {
-        put(image, 512 * *start as usize, &[i as u8 + 1; 512]);
+    for ((_, start, _), number) in slots.iter().zip([1, 2, 3, 4]) {
+        put(image, 512 * *start as usize, &[number; 512]);
     }
 }
 
