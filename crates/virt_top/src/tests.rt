@@ -454,7 +454,7 @@ fn tables_of_other_shapes_are_copied(rt: HostRuntime) -> Result<(), Fail> {
         (
             &[],
             b"extra: /dev/sda1 128+30592\ndone\n",
-            &[(128, 75), (0, 0)],
+            &[(128, 0), (0, 0)],
         ),
     ];
     for (slots, text, starts) in cases {
