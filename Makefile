@@ -11,8 +11,8 @@ build:
 	@echo "Proving and building the program. The first time this takes five to ten minutes, since every"
 	@echo "function is proved to meet its contract before it is compiled; build/build.log tells how far it is."
 	@mkdir -p build
-	@cd crates/virt_top && rt run -- virt-resize > ../../build/build.log 2>&1; test $$? -eq 9 || { tail -n 20 ../../build/build.log; exit 1; }
-	@test "$$($(PROGRAM) virt-sparsify 2>&1)" = 'virt-sparsify: not yet' || { echo "make: what was built doesn't answer" >&2; exit 1; }
+	@cd crates/virt_top && rt run -- virt-resize --dry-run a b > ../../build/build.log 2>&1; test $$? -eq 9 || { tail -n 20 ../../build/build.log; exit 1; }
+	@test "$$($(PROGRAM) virt-sparsify 2>&1)" = 'virt-sparsify: usage: Missing' || { echo "make: what was built doesn't answer" >&2; exit 1; }
 
 # Copies a sample disk to a larger one, and shows what became of it.
 demo: build

@@ -6,7 +6,8 @@ use Rattle.std.proofs.lemmas.Nat.{shr-shr, xor_shr, xor_lt, and_mask}
 use Rattle.std.specs.Int.Bits.{xor_add_and, xor_assoc as bit_xor_assoc, xor_self as bit_xor_self, xor_zero_r}
 use Rattle.std.proofs.lemmas.Grind.{flat_map-append}
 use Rattle.std.proofs.lemmas.List.{take_more}
-use Rattle.disk_base.specs.Checksum.{xor, plus, zeros, shifted, scaled, bits, message, IsRemainder, Leaves, IsTable, IsChecksum, IsCrc32, OneChecksum, rest_with, rest_after, number_of, left_of, checksum_of, castagnoli, ieee_802_3}
+use Rattle.disk_base.specs.Checksum.{xor, plus, zeros, shifted, scaled, bits, message, IsRemainder, LeavesRemainder, IsChecksum, IsCrc32, OneChecksum, rest_with, rest_after, number_of_bits, left_of, checksum_of, castagnoli, ieee_802_3}
+use Rattle.disk_base.specs.inside.Tables.{IsTable}
 use Rattle.disk_base.specs.declared.checksum_table.TheConstants.{CRC32, CRC32C}
 use Rattle.disk_base.proofs.Polynomials.{plus-nil, plus_self, plus_comm, plus_assoc, plus_swap, plus-append, zeros_plus, zeros_zeros, length-zeros, length-plus, length-rest_with, length-rest_after, rest_after-append, dividend, xor-false, one_remainder, remainder_of_division}
 
@@ -176,12 +177,12 @@ left_of_run polynomial start bytes =
     let whole : IsRemainder (plus (shifted m (length p)) (shifted s (length m))) (true ∷ p) (rest_after p s m) = remainder_of_division p s m (omega arith) same in
     subst (λ (n : ℕ). IsRemainder (plus (shifted m n) (shifted s (length m))) (true ∷ p) (rest_after p s m)) long whole
 
-pub leaves_run : (polynomial start : ℕ) (bytes : List ℕ) (rest : ℕ) → bits 32 rest ≡ rest_after (bits 32 polynomial) (bits 32 start) (message bytes) → Leaves polynomial start bytes rest
+pub leaves_run : (polynomial start : ℕ) (bytes : List ℕ) (rest : ℕ) → bits 32 rest ≡ rest_after (bits 32 polynomial) (bits 32 start) (message bytes) → LeavesRemainder polynomial start bytes rest
 leaves_run polynomial start bytes rest is =
     subst (λ (r : List Bool). IsRemainder (plus (shifted (message bytes) 32) (shifted (bits 32 start) (length (message bytes)))) (true ∷ bits 32 polynomial) r) (sym is) (left_of_run polynomial start bytes)
 
 -- what is left is one number
-pub run_leaves : (polynomial start : ℕ) (bytes : List ℕ) (rest : ℕ) → Leaves polynomial start bytes rest → bits 32 rest ≡ rest_after (bits 32 polynomial) (bits 32 start) (message bytes)
+pub run_leaves : (polynomial start : ℕ) (bytes : List ℕ) (rest : ℕ) → LeavesRemainder polynomial start bytes rest → bits 32 rest ≡ rest_after (bits 32 polynomial) (bits 32 start) (message bytes)
 run_leaves polynomial start bytes rest leaves =
     let p : List Bool = bits 32 polynomial in
     let s : List Bool = bits 32 start in
@@ -229,10 +230,10 @@ byte_alone polynomial v =
     ∙ ap (λ (k : ℕ). rest_after p (w ++ zeros 24) (zeros k)) w-long
 
 -- a word of the table is what a byte alone leaves
-word_run : (polynomial v word : ℕ) → Leaves polynomial 0 (v ∷ []) word → bits 32 word ≡ rest_after (bits 32 polynomial) (bits 8 v ++ zeros 24) (zeros 8)
+word_run : (polynomial v word : ℕ) → LeavesRemainder polynomial 0 (v ∷ []) word → bits 32 word ≡ rest_after (bits 32 polynomial) (bits 8 v ++ zeros 24) (zeros 8)
 word_run polynomial v word leaves = run_leaves polynomial 0 (v ∷ []) word leaves ∙ byte_alone polynomial v
 
-pub one_byte : (polynomial rest byte v word : ℕ) → rest < 2 ^ 32 → v ≡ bit_and (bit_xor rest byte) 255 → Leaves polynomial 0 (v ∷ []) word
+pub one_byte : (polynomial rest byte v word : ℕ) → rest < 2 ^ 32 → v ≡ bit_and (bit_xor rest byte) 255 → LeavesRemainder polynomial 0 (v ∷ []) word
     → bits 32 (bit_xor word (rest / 256)) ≡ rest_after (bits 32 polynomial) (bits 32 rest) (bits 8 byte)
 one_byte polynomial rest byte v word small v-is leaves =
     let p : List Bool = bits 32 polynomial in
@@ -259,7 +260,7 @@ byte_more polynomial start bytes table i rest word byte lt small sound byte-is w
     let p : List Bool = bits 32 polynomial in
     let s : List Bool = bits 32 start in
     let v : ℕ = bit_and (bit_xor rest byte) 255 in
-    let leaves : Leaves polynomial 0 (v ∷ []) word = subst (λ (w : ℕ). Leaves polynomial 0 (v ∷ []) w) (sym word-is) (sound v (omega (arith, and_mask (bit_xor rest byte) 8))) in
+    let leaves : LeavesRemainder polynomial 0 (v ∷ []) word = subst (λ (w : ℕ). LeavesRemainder polynomial 0 (v ∷ []) w) (sym word-is) (sound v (omega (arith, and_mask (bit_xor rest byte) 8))) in
     let more : message (take (i + 1) bytes) ≡ message (take i bytes) ++ bits 8 byte =
     ap message (take_more bytes i 0 lt) ∙ flat_map-append (bits 8) (take i bytes) (get_or bytes i 0 ∷ [])
     ∙ ap (λ (l : List Bool). message (take i bytes) ++ l) (append-nil (bits 8 (get_or bytes i 0)) ∙ ap (bits 8) (sym byte-is)) in
@@ -302,7 +303,7 @@ halves_run p zero x p-small small = refl
 halves_run p (suc k) x p-small small =
     halves_run p k (half p x) p-small (half_small p x p-small small) ∙ ap (λ (l : List Bool). rest_after (bits 32 p) l (zeros k)) (half_step 31 p x small)
 
-word_leaves : (p v word : ℕ) → p < 2 ^ 32 → v < 256 → word ≡ halves p 8 v → Leaves p 0 (v ∷ []) word
+word_leaves : (p v word : ℕ) → p < 2 ^ 32 → v < 256 → word ≡ halves p 8 v → LeavesRemainder p 0 (v ∷ []) word
 word_leaves p v word p-small small is =
     let w : List Bool = bits 8 v in
     let wide : bits 32 v ≡ w ++ zeros 24 = bits_past 8 24 v 32 refl small in
@@ -347,10 +348,10 @@ undone : (a b : ℕ) → bit_xor (bit_xor a b) b ≡ a
 undone a b = bit_xor_assoc a b b ∙ ap (bit_xor a) (bit_xor_self b) ∙ xor_zero_r a
 
 pub as_checksum : (polynomial start inversion : ℕ) (bytes : List ℕ) (rest : ℕ) → rest < 2 ^ 32 → inversion < 2 ^ 32
-    → Leaves polynomial start bytes rest → IsChecksum polynomial start inversion bytes (bit_xor rest inversion)
+    → LeavesRemainder polynomial start bytes rest → IsChecksum polynomial start inversion bytes (bit_xor rest inversion)
 as_checksum polynomial start inversion bytes rest fits small leaves = record {
   fits = xor_lt 32 rest inversion fits small;
-  left = subst (λ (r : ℕ). Leaves polynomial start bytes r) (sym (undone rest inversion)) leaves;
+  left = subst (λ (r : ℕ). LeavesRemainder polynomial start bytes r) (sym (undone rest inversion)) leaves;
 }
 
 pub one_checksum : (polynomial start inversion : ℕ) (bytes : List ℕ) (a b : ℕ) → inversion < 2 ^ 32
@@ -366,31 +367,31 @@ one_crc32 bytes a b is is' = one_checksum ieee_802_3 0xFFFFFFFF 0xFFFFFFFF bytes
 
 -- ---- the checksums as functions
 
-number_bits : (bs : List Bool) → bits (length bs) (number_of bs) ≡ bs
-unfolding bits number_of
+number_bits : (bs : List Bool) → bits (length bs) (number_of_bits bs) ≡ bs
+unfolding bits number_of_bits
 number_bits [] = refl
 number_bits (true ∷ bs) =
-    let odd : (1 + 2 * number_of bs) % 2 ≡ 1 = omega arith in
-    let half : (1 + 2 * number_of bs) / 2 ≡ number_of bs = omega arith in
-    ap (λ (d : ℕ). nat_eq d 1 ∷ bits (length bs) ((1 + 2 * number_of bs) / 2)) odd
+    let odd : (1 + 2 * number_of_bits bs) % 2 ≡ 1 = omega arith in
+    let half : (1 + 2 * number_of_bits bs) / 2 ≡ number_of_bits bs = omega arith in
+    ap (λ (d : ℕ). nat_eq d 1 ∷ bits (length bs) ((1 + 2 * number_of_bits bs) / 2)) odd
     ∙ ap (λ (x : ℕ). true ∷ bits (length bs) x) half ∙ ap (λ (l : List Bool). true ∷ l) (number_bits bs)
 number_bits (false ∷ bs) =
-    let even : (0 + 2 * number_of bs) % 2 ≡ 0 = omega arith in
-    let half : (0 + 2 * number_of bs) / 2 ≡ number_of bs = omega arith in
-    ap (λ (d : ℕ). nat_eq d 1 ∷ bits (length bs) ((0 + 2 * number_of bs) / 2)) even
+    let even : (0 + 2 * number_of_bits bs) % 2 ≡ 0 = omega arith in
+    let half : (0 + 2 * number_of_bits bs) / 2 ≡ number_of_bits bs = omega arith in
+    ap (λ (d : ℕ). nat_eq d 1 ∷ bits (length bs) ((0 + 2 * number_of_bits bs) / 2)) even
     ∙ ap (λ (x : ℕ). false ∷ bits (length bs) x) half ∙ ap (λ (l : List Bool). false ∷ l) (number_bits bs)
 
-number_small : (bs : List Bool) → number_of bs < 2 ^ length bs
-unfolding number_of
+number_small : (bs : List Bool) → number_of_bits bs < 2 ^ length bs
+unfolding number_of_bits
 number_small [] = omega arith
 number_small (true ∷ bs) = omega (arith, number_small bs, pow-suc 2 (length bs))
 number_small (false ∷ bs) = omega (arith, number_small bs, pow-suc 2 (length bs))
 
-number_back : (n x : ℕ) → x < 2 ^ n → number_of (bits n x) ≡ x
+number_back : (n x : ℕ) → x < 2 ^ n → number_of_bits (bits n x) ≡ x
 number_back n x small =
     let long : length (bits n x) ≡ n = length-bits n x in
-    let back : bits n (number_of (bits n x)) ≡ bits n x = ap (λ (m : ℕ). bits m (number_of (bits n x))) (sym long) ∙ number_bits (bits n x) in
-    same_bits n _ x (subst (λ (m : ℕ). number_of (bits n x) < 2 ^ m) long (number_small (bits n x))) small back
+    let back : bits n (number_of_bits (bits n x)) ≡ bits n x = ap (λ (m : ℕ). bits m (number_of_bits (bits n x))) (sym long) ∙ number_bits (bits n x) in
+    same_bits n _ x (subst (λ (m : ℕ). number_of_bits (bits n x) < 2 ^ m) long (number_small (bits n x))) small back
 
 length-left : (polynomial start : ℕ) (bytes : List ℕ) → length (rest_after (bits 32 polynomial) (bits 32 start) (message bytes)) ≡ 32
 length-left polynomial start bytes =
@@ -409,16 +410,16 @@ left_bits polynomial start bytes =
 pub left_is : (polynomial start : ℕ) (bytes : List ℕ) (rest : ℕ) → rest < 2 ^ 32 → bits 32 rest ≡ rest_after (bits 32 polynomial) (bits 32 start) (message bytes)
     → rest ≡ left_of polynomial start bytes
 unfolding left_of
-left_is polynomial start bytes rest small is = sym (number_back 32 rest small) ∙ ap number_of is
+left_is polynomial start bytes rest small is = sym (number_back 32 rest small) ∙ ap number_of_bits is
 
 -- a message in two parts
 pub left_more : (polynomial start : ℕ) (xs ys : List ℕ) → left_of polynomial start (xs ++ ys) ≡ left_of polynomial (left_of polynomial start xs) ys
 unfolding left_of
 left_more polynomial start xs ys =
     let p : List Bool = bits 32 polynomial in
-    ap (λ (m : List Bool). number_of (rest_after p (bits 32 start) m)) (flat_map-append (bits 8) xs ys)
-    ∙ ap number_of (rest_after-append p (bits 32 start) (message xs) (message ys))
-    ∙ ap (λ (s : List Bool). number_of (rest_after p s (message ys))) (sym (left_bits polynomial start xs))
+    ap (λ (m : List Bool). number_of_bits (rest_after p (bits 32 start) m)) (flat_map-append (bits 8) xs ys)
+    ∙ ap number_of_bits (rest_after-append p (bits 32 start) (message xs) (message ys))
+    ∙ ap (λ (s : List Bool). number_of_bits (rest_after p s (message ys))) (sym (left_bits polynomial start xs))
 
 pub checksum_is : (polynomial start inversion : ℕ) (bytes : List ℕ) → inversion < 2 ^ 32
     → IsChecksum polynomial start inversion bytes (checksum_of polynomial start inversion bytes)

@@ -6,11 +6,11 @@ use Rattle.std.proofs.Common.{rules, ◌≡◌, ℕ, ◌+◌, ◌*◌, ◌%◌, 
 use Rattle.disk_base.specs.declared.memory.Effect.{Effect}
 use Rattle.disk_base.specs.declared.memory.Effect.TheVariants.{Nothing, Write, Discard, Flush, Create}
 use Rattle.disk_base.specs.Memory.{stops_from}
-use Rattle.disk_base.specs.Past.{Event, Idle, Wrote, GaveUp, Flushed, Created, event_of, events_of, end_of, replayed, image_after, pending, Leaves, is_inside, are_inside}
+use Rattle.disk_base.specs.Past.{Event, Idle, Wrote, GaveUp, Flushed, Created, event_of, events_of, record_end, replayed, image_after, pending, Leaves, is_inside, are_inside}
 use Rattle.disk_base.specs.Stops.{AreOf, Adds, Remembers, Waits}
 
 -- the record of a write stays what it is when more bytes are written
-event_stays : (written more : List ℕ) (effect : Effect) → end_of effect ≤ length written → event_of (written ++ more) effect ≡ event_of written effect
+event_stays : (written more : List ℕ) (effect : Effect) → record_end effect ≤ length written → event_of (written ++ more) effect ≡ event_of written effect
 event_stays written more Nothing fits = refl
 event_stays written more (Write at from n) fits =
     let same : take n (drop from (written ++ more)) ≡ take n (drop from written) = same_lists _ _ (search (rules, places)) (λ k d h. grind (arith, places)) in
@@ -20,12 +20,12 @@ event_stays written more Flush fits = refl
 event_stays written more (Create n) fits = refl
 
 abbrev pub FitIn : List ℕ → List Effect → Type 0
-FitIn written history = All (λ effect. end_of effect ≤ length written) history
+FitIn written history = All (λ effect. record_end effect ≤ length written) history
 
 events_stay : (written more : List ℕ) (history : List Effect) → FitIn written history → events_of (written ++ more) history ≡ events_of written history
 events_stay written more [] fits = refl
 events_stay written more (effect ∷ history) fits =
-    let Fits : Effect → Type 0 = λ e. end_of e ≤ length written in
+    let Fits : Effect → Type 0 = λ e. record_end e ≤ length written in
     let head = event_stays written more effect (All-head Fits effect history fits) in
     let tail = events_stay written more history (All-tail Fits effect history fits) in
     ap (λ e. e ∷ events_of (written ++ more) history) head ∙ ap (λ es. event_of written effect ∷ es) tail
@@ -43,12 +43,12 @@ one_more_write written bytes history at fits =
     ∙ ap (λ es. es ++ Wrote at (take (length bytes) (drop (length written) (written ++ bytes))) ∷ []) (events_stay written bytes history fits)
     ∙ ap (λ (b : List ℕ). events_of written history ++ Wrote at b ∷ []) read
 
-pub fits_more : (written bytes : List ℕ) (history : List Effect) (effect : Effect) → end_of effect ≤ length written + length bytes → FitIn written history
+pub fits_more : (written bytes : List ℕ) (history : List Effect) (effect : Effect) → record_end effect ≤ length written + length bytes → FitIn written history
     → FitIn (written ++ bytes) (history ++ effect ∷ [])
 fits_more written bytes history effect small fits =
     let long = length-append written bytes in
-    let Fits : Effect → Type 0 = λ e. end_of e ≤ length (written ++ bytes) in
-    All-push Fits history effect (All-weaker (λ e. end_of e ≤ length written) Fits (λ e h. omega (arith, long)) history fits) (omega (arith, long))
+    let Fits : Effect → Type 0 = λ e. record_end e ≤ length (written ++ bytes) in
+    All-push Fits history effect (All-weaker (λ e. record_end e ≤ length written) Fits (λ e h. omega (arith, long)) history fits) (omega (arith, long))
 
 -- what is held, what a stop may leave and whether all is inside, after one more call
 pub image_more : (events : List Event) (event : Event) (image : List ℕ) → image_after (events ++ event ∷ []) image ≡ replayed (image_after events image) event
@@ -73,10 +73,10 @@ more_leaves [] event image may_leave c left = left
 more_leaves (e ∷ events) event image may_leave c left = more_leaves events event (replayed image e) (pending image may_leave e) c left
 
 -- the ghost fields of a disk with one more call in its record
-pub fits_push : (written : List ℕ) (history new : List Effect) (effect : Effect) → new ≡ history ++ effect ∷ [] → end_of effect ≤ length written → FitIn written history
+pub fits_push : (written : List ℕ) (history new : List Effect) (effect : Effect) → new ≡ history ++ effect ∷ [] → record_end effect ≤ length written → FitIn written history
     → FitIn written new
 fits_push written history new effect push small fits =
-    subst (FitIn written) (sym push) (All-push (λ e. end_of e ≤ length written) history effect fits small)
+    subst (FitIn written) (sym push) (All-push (λ e. record_end e ≤ length written) history effect fits small)
 
 pub inside_then : (events new : List Event) (event : Event) (first image : List ℕ) → new ≡ events ++ event ∷ [] → are_inside events first ≡ true
     → image_after events first ≡ image → is_inside image event ≡ true → are_inside new first ≡ true

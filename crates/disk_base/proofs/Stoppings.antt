@@ -7,9 +7,10 @@ use Rattle.std.proofs.Common.{rules, ◌≡◌, ℕ, ◌+◌, ◌-◌, ◌*◌, 
 use Rattle.disk_base.specs.declared.memory.Effect.{Effect}
 use Rattle.disk_base.specs.declared.memory.Effect.TheVariants.{Nothing}
 use Rattle.disk_base.specs.Image.{with_bytes, sector, AgreesOutside, HalfWritten}
-use Rattle.disk_base.specs.Past.{Event, Idle, Wrote, GaveUp, Flushed, Created, event_of, events_of, replayed, image_after, pending, Leaves, is_inside, are_inside, IsInside, is_created}
+use Rattle.disk_base.specs.Past.{Event, Idle, Wrote, GaveUp, Flushed, Created, event_of, events_of, replayed, image_after, pending, Leaves, is_inside, are_inside, is_created}
+use Rattle.disk_base.specs.inside.Calls.{IsCallInside}
 use Rattle.disk_base.specs.Replays.{leaves_held}
-use Rattle.disk_base.specs.Stopped.{event_at, meanwhile, LeftInside, settles, IsLasting, IsStopped, touched, cut_short, kept}
+use Rattle.disk_base.specs.Stopped.{event_at, meanwhile, LeftInside, settles, IsLasting, IsStopped, touched, cut_short, kept_calls}
 use Rattle.disk_base.proofs.Images.{range_in_range, length-with_bytes, agrees_with_bytes, bytes_written, bytes_behind}
 use Rattle.disk_base.specs.Memory.{LeftSince}
 use Rattle.disk_base.proofs.Replaying.{image_more, more_leaves}
@@ -30,7 +31,7 @@ pub record Keeps (within so_far left length : Type 0) : Type 0 where
   pub rest : left
   pub long : length
 
-pub inside_is : (image : List ℕ) (event : Event) → is_inside image event ≡ true → IsInside image event
+pub inside_is : (image : List ℕ) (event : Event) → is_inside image event ≡ true → IsCallInside image event
 inside_is image Idle test = tt
 inside_is image (Wrote at bytes) test =
     let parts = and_parts (nat_le (512 * at + length bytes) (length image)) (length bytes % 512 == 0) test in
@@ -40,7 +41,7 @@ inside_is image Flushed test = tt
 inside_is image (Created n) test = ltb-true _ _ test
 
 -- a call that is inside one disk is inside another of the same length
-pub inside_same : (image other : List ℕ) (event : Event) → length other ≡ length image → IsInside image event → IsInside other event
+pub inside_same : (image other : List ℕ) (event : Event) → length other ≡ length image → IsCallInside image event → IsCallInside other event
 inside_same image other Idle same inside = tt
 inside_same image other (Wrote at bytes) same inside = (omega (arith, same, inside.0), inside.1)
 inside_same image other (GaveUp at n) same inside = omega (arith, same, inside)
@@ -48,7 +49,7 @@ inside_same image other Flushed same inside = tt
 inside_same image other (Created n) same inside = inside
 
 -- how long a disk is after a call or its first sectors
-pub length_replayed : (image : List ℕ) (event : Event) → is_created event ≡ false → IsInside image event → length (replayed image event) ≡ length image
+pub length_replayed : (image : List ℕ) (event : Event) → is_created event ≡ false → IsCallInside image event → length (replayed image event) ≡ length image
 length_replayed image Idle no_create inside = refl
 length_replayed image (Wrote at bytes) no_create inside = length-with_bytes image (512 * at) bytes inside.0
 length_replayed image (GaveUp at n) no_create inside =
@@ -57,7 +58,7 @@ length_replayed image (GaveUp at n) no_create inside =
 length_replayed image Flushed no_create inside = refl
 length_replayed image (Created n) no_create inside = absurd (false≢true (sym no_create))
 
-pub length_cut : (keep fill : ℕ) (image : List ℕ) (event : Event) → IsInside image event → length (cut_short keep fill image event) ≡ length image
+pub length_cut : (keep fill : ℕ) (image : List ℕ) (event : Event) → IsCallInside image event → length (cut_short keep fill image event) ≡ length image
 length_cut keep fill image Idle inside = refl
 length_cut keep fill image (Wrote at bytes) inside =
     let piece = take (512 * min keep (length bytes / 512)) bytes in
@@ -96,7 +97,7 @@ none_lasting past = record { bound = omega arith; settled = inl refl; none_since
 
 -- each call is inside what the ones before it left
 pub inside_at : (events : List Event) (image : List ℕ) (i : ℕ) (d : Event) → i < length events → are_inside events image ≡ true
-    → IsInside (image_after (take i events) image) (slice_index_or events i d)
+    → IsCallInside (image_after (take i events) image) (slice_index_or events i d)
 inside_at [] image i d small inside = absurd (omega arith)
 inside_at (event ∷ events) image zero d small inside =
     let parts = and_parts (is_inside image event) (are_inside events (replayed image event)) inside in inside_is image event parts.0
@@ -122,7 +123,7 @@ still_more [] event keep = refl
 still_more (e ∷ events) event keep = still_more events event (keep - touched e)
 
 pub kept_more : (events : List Event) (event : Event) (keep fill : ℕ) (image : List ℕ)
-    → kept (events ++ event ∷ []) keep fill image ≡ cut_short (still events keep) fill (kept events keep fill image) event
+    → kept_calls (events ++ event ∷ []) keep fill image ≡ cut_short (still events keep) fill (kept_calls events keep fill image) event
 kept_more [] event keep fill image = refl
 kept_more (e ∷ events) event keep fill image = kept_more events event (keep - touched e) fill (cut_short keep fill image e)
 
@@ -130,8 +131,8 @@ pub still_step : (events : List Event) (i : ℕ) (d : Event) (keep : ℕ) → i 
 still_step events i d keep small = ap (λ es. still es keep) (take_step events i d small) ∙ still_more (take i events) (slice_index_or events i d) keep
 
 pub kept_step : (events : List Event) (i : ℕ) (d : Event) (keep fill : ℕ) (image : List ℕ) → i < length events
-    → kept (take (i + 1) events) keep fill image ≡ cut_short (still (take i events) keep) fill (kept (take i events) keep fill image) (slice_index_or events i d)
-kept_step events i d keep fill image small = ap (λ es. kept es keep fill image) (take_step events i d small) ∙ kept_more (take i events) (slice_index_or events i d) keep fill image
+    → kept_calls (take (i + 1) events) keep fill image ≡ cut_short (still (take i events) keep) fill (kept_calls (take i events) keep fill image) (slice_index_or events i d)
+kept_step events i d keep fill image small = ap (λ es. kept_calls es keep fill image) (take_step events i d small) ∙ kept_more (take i events) (slice_index_or events i d) keep fill image
 
 sector_of_front : (bytes : List ℕ) (m k : ℕ) → 512 * k + 512 ≤ 512 * m → 512 * m ≤ length bytes → sector (take (512 * m) bytes) k ≡ sector bytes k
 sector_of_front bytes m k low few = range_in_range bytes 0 (512 * m) (512 * k) 512 (512 * k) (omega arith) low (omega arith)
@@ -160,7 +161,7 @@ gave_up_cut image at n m fill fits few =
     record { same_length = agrees.same_length; before = agrees.before; after = λ i far. agrees.after i (omega arith) }
 
 -- a call as far as some sectors is one of the ways in which a stop after it, or inside it, may leave it
-pending_cut : (real image : List ℕ) (may_leave : List ℕ → Type 0) (keep fill : ℕ) (event : Event) → settles event ≡ false → IsInside image event → may_leave image
+pending_cut : (real image : List ℕ) (may_leave : List ℕ → Type 0) (keep fill : ℕ) (event : Event) → settles event ≡ false → IsCallInside image event → may_leave image
     → pending real may_leave event (cut_short keep fill image event)
 pending_cut real image may_leave keep fill Idle none inside holds = holds
 pending_cut real image may_leave keep fill (Wrote at bytes) none inside holds =
@@ -169,7 +170,7 @@ pending_cut real image may_leave keep fill (GaveUp at n) none inside holds = (im
 pending_cut real image may_leave keep fill Flushed none inside holds = absurd (false≢true (sym none))
 pending_cut real image may_leave keep fill (Created n) none inside holds = absurd (false≢true (sym none))
 
-meanwhile_cut : (image : List ℕ) (may_leave : List ℕ → Type 0) (keep fill : ℕ) (event : Event) → IsInside image event → may_leave image
+meanwhile_cut : (image : List ℕ) (may_leave : List ℕ → Type 0) (keep fill : ℕ) (event : Event) → IsCallInside image event → may_leave image
     → meanwhile may_leave event (cut_short keep fill image event)
 meanwhile_cut image may_leave keep fill Idle inside holds = holds
 meanwhile_cut image may_leave keep fill (Wrote at bytes) inside holds =
@@ -190,7 +191,7 @@ NoneSettles events = (i : ℕ) → i < length events → settles (event_at event
 
 -- so are calls of which none left all before it lasting
 kept_length : (events : List Event) (real image : List ℕ) (keep fill : ℕ) → NoneSettles events → are_inside events real ≡ true → length image ≡ length real
-    → length (kept events keep fill image) ≡ length (image_after events real)
+    → length (kept_calls events keep fill image) ≡ length (image_after events real)
 kept_length [] real image keep fill none inside same = same
 kept_length (event ∷ events) real image keep fill none inside same =
     let parts = and_parts (is_inside real event) (are_inside events (replayed real event)) inside in
@@ -200,7 +201,7 @@ kept_length (event ∷ events) real image keep fill none inside same =
     (length_cut keep fill image event (inside_same real image event same here) ∙ same ∙ sym (length_replayed real event (not_created event goes) here))
 
 kept_leaves : (events : List Event) (real image : List ℕ) (may_leave : List ℕ → Type 0) (keep fill : ℕ) → NoneSettles events → are_inside events real ≡ true
-    → length image ≡ length real → may_leave image → Leaves events real may_leave (kept events keep fill image)
+    → length image ≡ length real → may_leave image → Leaves events real may_leave (kept_calls events keep fill image)
 kept_leaves [] real image may_leave keep fill none inside same holds = holds
 kept_leaves (event ∷ events) real image may_leave keep fill none inside same holds =
     let parts = and_parts (is_inside real event) (are_inside events (replayed real event)) inside in
@@ -303,7 +304,7 @@ module _ (first : List ℕ) (past : List Event) (call keep fill lasting : ℕ)
       ∙ is.none_since (lasting + i) (omega arith) near
 
   abbrev image : List ℕ
-  image = kept since keep fill (image_after before first)
+  image = kept_calls since keep fill (image_after before first)
 
   left_before : Leaves (take call past) first Begun image
   left_before = subst (λ es. Leaves es first Begun image) (sym split)
@@ -315,7 +316,7 @@ module _ (first : List ℕ) (past : List Event) (call keep fill lasting : ℕ)
   long_before = kept_length since (image_after before first) (image_after before first) keep fill none inside_parts.1 refl
       ∙ ap length (sym (image_append before since first)) ∙ ap (λ es. length (image_after es first)) (sym split)
 
-  pub left_inside : LeftInside first past call (kept (drop lasting (take (call + 1) past)) keep fill (image_after before first))
+  pub left_inside : LeftInside first past call (kept_calls (drop lasting (take (call + 1) past)) keep fill (image_after before first))
   left_inside = elim (cases_lt call (length past)) [
     | inl small ↦
         let event = event_at past call in
@@ -323,13 +324,13 @@ module _ (first : List ℕ) (past : List Event) (call keep fill lasting : ℕ)
         let more : drop lasting (take (call + 1) past) ≡ since ++ event ∷ [] =
         ap (drop lasting) (take_step past call Idle small) ∙ drop-append-le lasting (take call past) (event ∷ []) (omega (arith, is.bound, long)) in
         let here = inside_same _ _ event long_before (inside_at past first call Idle small inside) in
-        subst (λ es. LeftInside first past call (kept es keep fill (image_after before first))) (sym more)
+        subst (λ es. LeftInside first past call (kept_calls es keep fill (image_after before first))) (sym more)
         (subst (meanwhile (Leaves (take call past) first Begun) event) (sym (kept_more since event keep fill (image_after before first)))
         (meanwhile_cut image (Leaves (take call past) first Begun) (still since keep) fill event here left_before))
     | inr late ↦
         let none_there : event_at past call ≡ Idle = get_or_past past call Idle late in
         let same : take (call + 1) past ≡ take call past = take_all (call + 1) past (omega arith) ∙ sym (take_all call past late) in
-        subst (λ es. LeftInside first past call (kept (drop lasting es) keep fill (image_after before first))) (sym same)
+        subst (λ es. LeftInside first past call (kept_calls (drop lasting es) keep fill (image_after before first))) (sym same)
         (subst (λ e. meanwhile (Leaves (take call past) first Begun) e image) (sym none_there) left_before)
   ]
 
@@ -386,9 +387,9 @@ module _ (first written : List ℕ) (history : List Effect) (call lasting before
     pub back_created : is_created (event_at all call) ≡ false → All (λ event. is_created event ≡ false) (events_of written back_part)
     back_created not = subst (All (λ event. is_created event ≡ false)) (sym back) (none_created all call lasting lasts not)
 
-    module _ (keep fill : ℕ) (result : List ℕ) (result_is : result ≡ kept (events_of written back_part) keep fill image) where
-      shown : result ≡ kept (drop lasting (take (call + 1) all)) keep fill (image_after (take lasting all) first)
-      shown = result_is ∙ ap (λ es. kept es keep fill image) back ∙ ap (kept (drop lasting (take (call + 1) all)) keep fill) from
+    module _ (keep fill : ℕ) (result : List ℕ) (result_is : result ≡ kept_calls (events_of written back_part) keep fill image) where
+      shown : result ≡ kept_calls (drop lasting (take (call + 1) all)) keep fill (image_after (take lasting all) first)
+      shown = result_is ∙ ap (λ es. kept_calls es keep fill image) back ∙ ap (kept_calls (drop lasting (take (call + 1) all)) keep fill) from
 
       pub is_stopped : IsStopped first all call keep fill result
       is_stopped = record { lasting = lasting; is_lasting = lasts; image_is = shown }

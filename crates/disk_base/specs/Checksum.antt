@@ -1,6 +1,6 @@
 -- Checksums of 32 bits, as remainders of the division of polynomials over two elements. A polynomial is the list
 -- of its coefficients, highest power first. A byte or a number read from its lowest bit is such a list.
-use Rattle.std.specs.Prelude.{◌≡◌, ℕ, zero, suc, ◌+◌, ◌*◌, ◌/◌, ◌%◌, ◌^◌, ◌<◌, Bool, true, false, not, nat_eq, if◌then◌else◌, List, [], ◌∷◌, ◌++◌, length, drop, replicate, slice_index, flat_map, bit_xor}
+use Rattle.std.specs.Prelude.{◌≡◌, ℕ, zero, suc, ◌+◌, ◌*◌, ◌/◌, ◌%◌, ◌^◌, ◌<◌, Bool, true, false, not, nat_eq, if◌then◌else◌, List, [], ◌∷◌, ◌++◌, length, drop, replicate, flat_map, bit_xor}
 use Rattle.disk_base.specs.Image.{with_bytes}
 
 -- the sum of two coefficients
@@ -49,8 +49,8 @@ message bytes = flat_map (bits 8) bytes
 
 -- `remainder` is left of the message, times the 32nd power, and of `start` in front of it, by a generator of
 -- degree 32 whose other coefficients are `polynomial`
-abbrev pub Leaves : ℕ → ℕ → List ℕ → ℕ → Type 0
-Leaves polynomial start bytes remainder =
+abbrev pub LeavesRemainder : ℕ → ℕ → List ℕ → ℕ → Type 0
+LeavesRemainder polynomial start bytes remainder =
     IsRemainder
     (plus (shifted (message bytes) 32) (shifted (bits 32 start) (length (message bytes))))
     (true ∷ bits 32 polynomial)
@@ -59,7 +59,7 @@ Leaves polynomial start bytes remainder =
 -- the checksum by that polynomial and start, with `inversion` added at the end
 pub record IsChecksum (polynomial start inversion : ℕ) (bytes : List ℕ) (checksum : ℕ) : Type 0 where
   pub fits : checksum < 2 ^ 32
-  pub left : Leaves polynomial start bytes (bit_xor checksum inversion)
+  pub left : LeavesRemainder polynomial start bytes (bit_xor checksum inversion)
 
 -- the two generators in use, without their first coefficient: of IEEE 802.3, and Castagnoli's (RFC 3720, 12.1)
 abbrev pub ieee_802_3 : ℕ
@@ -92,13 +92,13 @@ rest_after polynomial rest [] = rest
 rest_after polynomial rest (coefficient ∷ dividend) = rest_after polynomial (rest_with polynomial rest coefficient) dividend
 
 -- the number whose bits these are, the lowest first
-unfoldable pub number_of : List Bool → ℕ
-number_of [] = 0
-number_of (bit ∷ rest) = (if bit then 1 else 0) + 2 * number_of rest
+unfoldable pub number_of_bits : List Bool → ℕ
+number_of_bits [] = 0
+number_of_bits (bit ∷ rest) = (if bit then 1 else 0) + 2 * number_of_bits rest
 
 -- what is left of the message, times the 32nd power, and of `start` in front of it, as a number
 unfoldable pub left_of : ℕ → ℕ → List ℕ → ℕ
-left_of polynomial start bytes = number_of (rest_after (bits 32 polynomial) (bits 32 start) (message bytes))
+left_of polynomial start bytes = number_of_bits (rest_after (bits 32 polynomial) (bits 32 start) (message bytes))
 
 unfoldable pub checksum_of : ℕ → ℕ → ℕ → List ℕ → ℕ
 checksum_of polynomial start inversion bytes = bit_xor (left_of polynomial start bytes) inversion
@@ -122,7 +122,3 @@ OneChecksum =
     (polynomial start inversion : ℕ) (bytes : List ℕ) → inversion < 2 ^ 32
     → IsChecksum polynomial start inversion bytes (checksum_of polynomial start inversion bytes)
     × ((other : ℕ) → IsChecksum polynomial start inversion bytes other → other ≡ checksum_of polynomial start inversion bytes)
-
--- word v of a table is left of the byte v
-abbrev pub IsTable : ℕ → List ℕ → Type 0
-IsTable polynomial table = (v : ℕ) → v < 256 → Leaves polynomial 0 (v ∷ []) (slice_index table v)

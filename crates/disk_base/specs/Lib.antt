@@ -14,3 +14,4 @@ pub mod Devices
 pub mod Fields
 pub mod Run
 pub mod formers
+pub mod inside

@@ -10,7 +10,8 @@ use Rattle.disk_base.specs.declared.memory.MemDisk.{MemDisk}
 use Rattle.disk_base.specs.Faults.{counted}
 use Rattle.disk_base.specs.Image.{with_bytes}
 use Rattle.disk_base.specs.Log.{Log, fresh, created, written, gave_up}
-use Rattle.disk_base.specs.Past.{Event, event_of, Idle, Wrote, GaveUp, Created, events_of, Leaves}
+use Rattle.disk_base.specs.Past.{Event, event_of, Idle, Wrote, GaveUp, Created, events_of, is_created, Leaves}
+use Rattle.disk_base.specs.Stopped.{event_at}
 use Rattle.disk_base.specs.Replays.{leaves_held}
 use Rattle.disk_base.specs.Stops.{Stops, AreOf, Waits, waits_refl, waits_on}
 
@@ -41,6 +42,10 @@ made name image limits failing = record { image = image; log = fresh name; attac
 -- whether the next call, a write of `more` bytes or, with 0, another call, fails by its number or because the record is full
 abbrev pub refuses : State → ℕ → Bool
 refuses s more = list_any (λ n. n == s.calls) s.failing || (nat_le s.limits.calls s.calls || nat_lt s.limits.bytes (s.kept + more))
+
+-- no stop inside a call can be asked for: it was not made yet, or it made the disk a new one
+abbrev pub HasNoStops : State → ℕ → Type 0
+HasNoStops s call = (s.calls ≤ call) ⊎ (is_created (event_at s.past call) ≡ true)
 
 -- a call that answered Ok was counted and recorded, and one that failed raised the count of faults as well, and was
 -- recorded where there was room

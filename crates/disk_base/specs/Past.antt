@@ -1,5 +1,5 @@
 -- What a disk in memory keeps of its calls, and what they leave when they are replayed.
-use Rattle.std.specs.Prelude.{◌≡◌, ℕ, ◌+◌, ◌*◌, ◌%◌, List, [], ◌∷◌, length, take, drop, map, replicate, Bool, true, false, ◌<◌, ◌≤◌, ◌==◌, ◌&&◌, nat_le, nat_lt, ◌^◌}
+use Rattle.std.specs.Prelude.{◌≡◌, ℕ, ◌+◌, ◌*◌, ◌%◌, List, [], ◌∷◌, length, take, drop, map, replicate, Bool, true, false, ◌==◌, ◌&&◌, nat_le, nat_lt, ◌^◌}
 use Rattle.disk_base.specs.declared.memory.Effect.{Effect}
 use Rattle.disk_base.specs.declared.memory.Effect.TheVariants.{Nothing, Write, Discard, Flush, Create}
 use Rattle.disk_base.specs.Image.{with_bytes, AgreesOutside, HalfWritten}
@@ -25,12 +25,12 @@ abbrev pub events_of : List ℕ → List Effect → List Event
 events_of written history = map (event_of written) history
 
 -- how many bytes the record needs to have for it
-abbrev pub end_of : Effect → ℕ
-end_of Nothing = 0
-end_of (Write at from n) = from + n
-end_of (Discard at n) = 0
-end_of Flush = 0
-end_of (Create n) = 0
+abbrev pub record_end : Effect → ℕ
+record_end Nothing = 0
+record_end (Write at from n) = from + n
+record_end (Discard at n) = 0
+record_end Flush = 0
+record_end (Create n) = 0
 
 -- what a disk that held this holds after the call; a discarded sector holds 512 bytes A5
 abbrev pub replayed : List ℕ → Event → List ℕ
@@ -69,14 +69,6 @@ is_inside image (Created n) = nat_lt (512 * n) (2 ^ 64)
 abbrev pub are_inside : List Event → List ℕ → Bool
 are_inside [] image = true
 are_inside (event ∷ events) image = is_inside image event && are_inside events (replayed image event)
-
--- the same, said of one call
-abbrev pub IsInside : List ℕ → Event → Type 0
-IsInside image Idle = Unit {0}
-IsInside image (Wrote at bytes) = (512 * at + length bytes ≤ length image) × (length bytes % 512 ≡ 0)
-IsInside image (GaveUp at n) = 512 * at + 512 * n ≤ length image
-IsInside image Flushed = Unit {0}
-IsInside image (Created n) = 512 * n < 2 ^ 64
 
 -- whether a call made the disk a new one
 abbrev pub is_created : Event → Bool

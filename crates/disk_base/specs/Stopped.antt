@@ -52,13 +52,13 @@ cut_short keep fill image Flushed = image
 cut_short keep fill image (Created n) = image
 
 -- after the first `keep` sectors of these calls, in their order
-abbrev pub kept : List Event → ℕ → ℕ → List ℕ → List ℕ
-kept [] keep fill image = image
-kept (event ∷ events) keep fill image = kept events (keep - touched event) fill (cut_short keep fill image event)
+abbrev pub kept_calls : List Event → ℕ → ℕ → List ℕ → List ℕ
+kept_calls [] keep fill image = image
+kept_calls (event ∷ events) keep fill image = kept_calls events (keep - touched event) fill (cut_short keep fill image event)
 
 -- the image that is given for a stop inside a call: what was lasting before the call, and then the first `keep` sectors
 -- of the calls since, with that call
 pub record IsStopped (first : List ℕ) (past : List Event) (call keep fill : ℕ) (image : List ℕ) : Type 0 where
   pub lasting : ℕ
   pub is_lasting : IsLasting past call lasting
-  pub image_is : image ≡ kept (drop lasting (take (call + 1) past)) keep fill (image_after (take lasting past) first)
+  pub image_is : image ≡ kept_calls (drop lasting (take (call + 1) past)) keep fill (image_after (take lasting past) first)

@@ -2,6 +2,7 @@
 ghost use Rattle.std.specs.Prelude.{◌≡◌, ℕ, ◌+◌, ◌-◌, ◌*◌, ◌%◌, ◌^◌, ◌<◌, ◌≤◌, ◌++◌, true, length, replicate, OnOk, OnErr, Some};
 ghost use Rattle.disk_base.specs.Faults.{HasCause};
 ghost use Rattle.disk_base.specs.Image.{bytes_at};
+ghost use Rattle.disk_base.specs.inside.Cuts.{IsCutFrom};
 
 use crate::device::{Blocks, Failed, SECTOR};
 
@@ -46,7 +47,7 @@ impl ByteDisk {
 
 // Fills `out` with the bytes from byte `start` on, and with zeros behind the last one.
 fn fill_from(bytes: &[u8], start: usize, out: &mut [u8])
-    ensures { (zeros : ℕ) → start + length out.old ≤ length bytes.now + zeros → out.new ≡ bytes_at (bytes.now ++ replicate zeros 0) start (length out.old) }
+    ensures { IsCutFrom bytes.now start out.old out.new }
 {
     out.fill(0);
     if start < bytes.len() {

@@ -1,6 +1,7 @@
 //! Checksums of 32 bits.
 ghost use Rattle.std.specs.Prelude.{◌≡◌, ℕ, ◌+◌, ◌≤◌, length};
-ghost use Rattle.disk_base.specs.Checksum.{IsCrc32, IsCrc32Lvm, IsCrc32c, IsTable, OneChecksum, crc32_of, crc32_lvm_of, crc32c_of, crc32c_without_of, left_of};
+ghost use Rattle.disk_base.specs.Checksum.{IsCrc32, IsCrc32Lvm, IsCrc32c, OneChecksum, crc32_of, crc32_lvm_of, crc32c_of, crc32c_without_of, left_of};
+ghost use Rattle.disk_base.specs.inside.Tables.{IsTable};
 
 use crate::checksum_table::{CRC32, CRC32C};
 

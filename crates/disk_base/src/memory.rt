@@ -1,10 +1,12 @@
 //! A disk in memory, which tells everything and fails exactly where it is told to.
-ghost use Rattle.std.specs.Prelude.{◌≡◌, ℕ, ◌+◌, ◌-◌, ◌*◌, ◌%◌, ◌/◌, ◌^◌, ◌<◌, ◌≤◌, min, true, length, IsTrue, IsOk, OnOk, OnErr, IfOk, is_err, Option, Some, None, ◌↔◌, vec_len, vec_capacity, ◌||◌, not, [], All, replicate, false, List};
+ghost use Rattle.std.specs.Prelude.{◌≡◌, ℕ, ◌+◌, ◌-◌, ◌*◌, ◌%◌, ◌/◌, ◌^◌, ◌<◌, ◌≤◌, min, not, true, length, IsTrue, IsOk, OnOk, OnErr, IfOk, is_err, Option, Some, None, ◌↔◌, vec_len, vec_capacity, ◌||◌, not, [], All, replicate, false, List};
 ghost use Rattle.std.specs.Bool.{OnFalse};
 ghost use Rattle.disk_base.specs.Faults.{HasCause};
 ghost use Rattle.disk_base.specs.Image.{bytes_at, with_bytes, AgreesOutside, HalfWritten};
-ghost use Rattle.disk_base.specs.Past.{Idle, Flushed, end_of, event_of, events_of, image_after, replayed, is_inside, are_inside, is_created, IsInside};
-ghost use Rattle.disk_base.specs.Stopped.{settles, IsLasting, touched, cut_short, kept, event_at, LeftInside, IsStopped};
+ghost use Rattle.disk_base.specs.Past.{Idle, Flushed, record_end, event_of, events_of, image_after, replayed, is_inside, are_inside, is_created};
+ghost use Rattle.disk_base.specs.inside.Calls.{IsCallInside};
+ghost use Rattle.disk_base.specs.Stopped.{settles, IsLasting, touched, cut_short, kept_calls, event_at, LeftInside, IsStopped};
+ghost use Rattle.disk_base.specs.inside.Calls.{LastsOn};
 
 use crate::device::{Ask, Blocks, Disk, Failed, Mode, SECTOR};
 use std::alloc::{AllocError, Global};
@@ -71,7 +73,7 @@ pub struct MemDisk {
     ghost written_fit: { vec_len written ≤ limits.bytes },
     ghost written_reserved: { limits.bytes ≤ vec_capacity written },
     ghost in_step: { length history.items ≤ calls },
-    ghost fits: { All (λ effect. end_of effect ≤ length written.items) history.items },
+    ghost fits: { All (λ effect. record_end effect ≤ length written.items) history.items },
     ghost inside: { are_inside (events_of written.items history.items) first.items ≡ true },
     ghost replays: { image_after (events_of written.items history.items) first.items ≡ bytes.items },
 }
@@ -114,7 +116,7 @@ fn is_lasting(effect: Effect) -> bool
 fn lasting_with(history: &[Effect], i: usize, lasting: usize) -> usize
     requires { i < length history.now }
     ensures bound { lasting ≤ i → result ≤ i + 1 }
-    ensures lasting { (written : List ℕ) → IsLasting (events_of written history.now) i lasting → IsLasting (events_of written history.now) (i + 1) result }
+    ensures lasting { (written : List ℕ) → LastsOn (events_of written history.now) i lasting result }
 {
     if is_lasting(history[i]) {
         return i + 1;
@@ -136,8 +138,8 @@ fn lasting(history: &[Effect]) -> usize
 
 // Replays a call.
 fn replay(image: &mut Vec<u8>, effect: Effect, written: &[u8]) -> Result<(), AllocError>
-    requires recorded { end_of effect ≤ length written.now }
-    requires inside { IsInside image.old.items (event_of written.now effect) }
+    requires recorded { record_end effect ≤ length written.now }
+    requires inside { IsCallInside image.old.items (event_of written.now effect) }
     ensures { OnOk result (image.new.items ≡ replayed image.old.items (event_of written.now effect)) }
 {
     match effect {
@@ -162,8 +164,8 @@ fn replay(image: &mut Vec<u8>, effect: Effect, written: &[u8]) -> Result<(), All
 
 // Replays the first `keep` sectors of a call, and answers how many are left of these.
 fn replay_part(image: &mut Vec<u8>, effect: Effect, written: &[u8], keep: u64, byte: u8) -> u64
-    requires recorded { end_of effect ≤ length written.now }
-    requires inside { IsInside image.old.items (event_of written.now effect) }
+    requires recorded { record_end effect ≤ length written.now }
+    requires inside { IsCallInside image.old.items (event_of written.now effect) }
     ensures image { image.new.items ≡ cut_short keep byte image.old.items (event_of written.now effect) }
     ensures left { result ≡ keep - touched (event_of written.now effect) }
 {
@@ -193,7 +195,7 @@ fn replay_all(
     history: &[Effect],
     written: &[u8],
 ) -> Result<Vec<u8>, AllocError>
-    requires recorded { All (λ effect. end_of effect ≤ length written.now) history.now }
+    requires recorded { All (λ effect. record_end effect ≤ length written.now) history.now }
     requires inside { are_inside (events_of written.now history.now) first.now ≡ true }
     ensures { IfOk result (λ image. image.items ≡ image_after (events_of written.now history.now) first.now) }
 {
@@ -206,10 +208,10 @@ fn replay_all(
 
 // Replays the first `keep` sectors of these calls.
 fn replay_first(image: &mut Vec<u8>, history: &[Effect], written: &[u8], keep: u64, byte: u8)
-    requires recorded { All (λ effect. end_of effect ≤ length written.now) history.now }
+    requires recorded { All (λ effect. record_end effect ≤ length written.now) history.now }
     requires inside { are_inside (events_of written.now history.now) image.old.items ≡ true }
     requires none_created { All (λ event. is_created event ≡ false) (events_of written.now history.now) }
-    ensures { image.new.items ≡ kept (events_of written.now history.now) keep byte image.old.items }
+    ensures { image.new.items ≡ kept_calls (events_of written.now history.now) keep byte image.old.items }
 {
     let mut left = keep;
     for effect in history {
@@ -219,7 +221,7 @@ fn replay_first(image: &mut Vec<u8>, history: &[Effect], written: &[u8], keep: u
 
 // Whether that call made the disk none.
 fn none_created(history: &[Effect], call: usize) -> bool
-    ensures { IsTrue result → (written : List ℕ) → is_created (event_at (events_of written history.now) call) ≡ false }
+    ensures { (written : List ℕ) → is_created (event_at (events_of written history.now) call) ≡ not result }
 {
     if call < history.len() {
         return !matches!(history[call], Effect::Create(_));
@@ -238,7 +240,7 @@ fn stopped(
     keep: u64,
     byte: u8,
 ) -> Result<Vec<u8>, AllocError>
-    requires recorded { All (λ effect. end_of effect ≤ length written.now) history.now }
+    requires recorded { All (λ effect. record_end effect ≤ length written.now) history.now }
     requires inside { are_inside (events_of written.now history.now) first.now ≡ true }
     requires not_created { is_created (event_at (events_of written.now history.now) call) ≡ false }
     ensures left { IfOk result (λ image. LeftInside first.now (events_of written.now history.now) call image.items) }
@@ -253,7 +255,7 @@ fn stopped(
 }
 
 impl MemDisk {
-    ghost use Rattle.disk_base.specs.Memory.{state_of, stops_of, made, called, failed, refuses, asked, blanked};
+    ghost use Rattle.disk_base.specs.Memory.{HasNoStops, state_of, stops_of, made, called, failed, refuses, asked, blanked};
     ghost use Rattle.disk_base.specs.Stops.{Waits, IsSettled};
     ghost use Rattle.disk_base.specs.Log.{Asked};
 
@@ -355,8 +357,12 @@ impl MemDisk {
     pub fn has_stops(&self, call: u64) -> bool
         ensures made { IsTrue result → call < (state_of self.now).calls }
         ensures not_created { IsTrue result → is_created (event_at (state_of self.now).past call) ≡ false }
+        ensures otherwise { OnFalse result (HasNoStops (state_of self.now) call) }
     {
-        call < self.calls && none_created(&self.history, call as usize)
+        if call >= self.calls {
+            return false;
+        }
+        none_created(&self.history, call as usize)
     }
 
     // Puts an ask into the log, and answers whether it was by the disk's own name.
@@ -364,7 +370,8 @@ impl MemDisk {
         ensures own { IsTrue result ↔ (name.now ≡ (state_of self.old).log.name) }
         ensures asked { Asked (state_of self.old).log (state_of self.new).log name.now mode }
         ensures others { state_of self.new ≡ asked (state_of self.old) (state_of self.new).log None }
-        ensures history { (vec_len self.new.history ≡ vec_len self.old.history) × (vec_capacity self.new.bytes ≡ vec_capacity self.old.bytes) }
+        ensures history { vec_len self.new.history ≡ vec_len self.old.history }
+        ensures capacity { vec_capacity self.new.bytes ≡ vec_capacity self.old.bytes }
     {
         let own = self.name.as_slice() == name;
         let sectors = match mode {

@@ -10,7 +10,7 @@ use Rattle.gpt_table.specs.declared.reading.Chosen.{Chosen}
 use Rattle.gpt_table.specs.Entry.{slot_at, entry_of, used, is_bad}
 use Rattle.gpt_table.specs.Header.{header_at, array_of, IsPlacedHeader, HasOtherShape, IsAbsent}
 use Rattle.gpt_table.specs.Gpt.{HasGptFault, IsFirstBad, is_bad_at, header_in, array_in}
-use Rattle.gpt_table.specs.inside.Reading.{IsNoHeader, IsTaken, IsChosen, IsListFault}
+use Rattle.gpt_table.specs.inside.Reading.{IsNoHeader, IsValidFound, IsChosen, IsListFault}
 
 -- a header that is neither placed nor of another shape makes its sector absent
 pub absent_by_header : (size sectors at : ℕ) (image : List ℕ) (header : Header) → sectors ≡ size → header ≡ header_at image at
@@ -36,12 +36,12 @@ absent_by_checksum size sectors at image header array sum header-is placed array
 
 -- the backup is in use where the primary is absent
 pub backup_chosen : (sectors size last : ℕ) (image now : List ℕ) (header : Header) (array : Vec ℕ Global) → size ≡ sectors → now ≡ image → last ≡ sectors - 1
-    → IsAbsent sectors 1 image → IsTaken size last now header array.items → IsChosen sectors image (record { header = header; array = array; backup = true })
+    → IsAbsent sectors 1 image → IsValidFound size last now header array.items → IsChosen sectors image (record { header = header; array = array; backup = true })
 backup_chosen sectors size last image now header array size-is now-is last-is absent taken =
-    let here : IsTaken sectors (sectors - 1) image header array.items =
-    subst (λ (n : ℕ). IsTaken n (sectors - 1) image header array.items) size-is
-    (subst (λ (i : List ℕ). IsTaken size (sectors - 1) i header array.items) now-is
-    (subst (λ (k : ℕ). IsTaken size k now header array.items) last-is taken)) in
+    let here : IsValidFound sectors (sectors - 1) image header array.items =
+    subst (λ (n : ℕ). IsValidFound n (sectors - 1) image header array.items) size-is
+    (subst (λ (i : List ℕ). IsValidFound size (sectors - 1) i header array.items) now-is
+    (subst (λ (k : ℕ). IsValidFound size k now header array.items) last-is taken)) in
     record {
       in_use = record { valid = here.valid; primary = λ t. absent };
       header_is = here.header_is;

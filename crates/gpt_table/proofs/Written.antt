@@ -12,9 +12,9 @@ use Rattle.gpt_table.proofs.Puts.{next, filled}
 use Rattle.gpt_table.specs.declared.entry.Entry.{Entry}
 use Rattle.disk_base.specs.Fields.{little_at}
 use Rattle.gpt_table.specs.declared.header.Header.{Header}
-use Rattle.gpt_table.specs.Entry.{guid_at, entry_of, used, slot_at, kept, is_bad, slot_bytes}
+use Rattle.gpt_table.specs.Entry.{guid_at, entry_of, used, slot_at, kept_entry, is_bad, slot_bytes}
 use Rattle.gpt_table.specs.Header.{summed, header_of, header_at, IsPlacedHeader, IsValid, IsHeaderSector, header_place, array_written, array_of, start_bytes, rest_bytes, header_bytes}
-use Rattle.gpt_table.specs.Gpt.{Table, AreWritable, IsWritable, IsWritten, ReadsAs, array_bytes}
+use Rattle.gpt_table.specs.Gpt.{EntryTable, AreWritable, MayBeWritten, IsWritten, ReadsAs, array_bytes}
 
 -- ---- a header
 
@@ -130,8 +130,8 @@ length-array_bytes (slot ∷ entries) long =
     omega (arith, length-append (slot_bytes slot) (array_bytes entries))
 
 pub slots_back : (entries : List (Option Entry)) → length entries ≡ 128 → ((j : ℕ) → j < 128 → length (slot_bytes (get_or entries j None)) ≡ 128)
-    → ((j : ℕ) → j < 128 → used (entry_of (slot_bytes (get_or entries j None))) ≡ kept (get_or entries j None))
-    → (k : ℕ) → k < 128 → slot_at (array_bytes entries) k ≡ kept (get_or entries k None)
+    → ((j : ℕ) → j < 128 → used (entry_of (slot_bytes (get_or entries j None))) ≡ kept_entry (get_or entries j None))
+    → (k : ℕ) → k < 128 → slot_at (array_bytes entries) k ≡ kept_entry (get_or entries k None)
 slots_back entries count long back k lt =
     ap (λ (b : List ℕ). used (entry_of b)) (slot_found entries k (λ j small. long j (omega arith)) (omega arith)) ∙ back k lt
 
@@ -162,11 +162,11 @@ written_all image new entries i long count all each is =
 
 -- ---- a whole disk
 
-kept_same : (slot : Option Entry) → ((entry : Entry) → slot ≡ Some entry → is_nil_bytes entry.kind ≡ false) → kept slot ≡ slot
+kept_same : (slot : Option Entry) → ((entry : Entry) → slot ≡ Some entry → is_nil_bytes entry.kind ≡ false) → kept_entry slot ≡ slot
 kept_same None used-kind = refl
 kept_same (Some entry) used-kind = ap (λ (c : Bool). if c then None else Some entry) (used-kind entry refl)
 
-not_bad : (sectors : ℕ) (slot : Option Entry) → ((entry : Entry) → slot ≡ Some entry → IsWritable sectors entry) → is_bad 34 (sectors - 34) slot ≡ false
+not_bad : (sectors : ℕ) (slot : Option Entry) → ((entry : Entry) → slot ≡ Some entry → MayBeWritten sectors entry) → is_bad 34 (sectors - 34) slot ≡ false
 not_bad sectors None fits = refl
 not_bad sectors (Some entry) fits =
     let w = fits entry refl in
@@ -189,8 +189,8 @@ valid_of sectors backup image disk array sum inside reads array-is sums =
       here,
     )
 
-pub reads_as : (sectors : ℕ) (table : Table) (image : List ℕ) → length table.disk ≡ 16 → length table.entries ≡ 128
-    → ((k : ℕ) → k < 128 → slot_at (array_bytes table.entries) k ≡ kept (get_or table.entries k None))
+pub reads_as : (sectors : ℕ) (table : EntryTable) (image : List ℕ) → length table.disk ≡ 16 → length table.entries ≡ 128
+    → ((k : ℕ) → k < 128 → slot_at (array_bytes table.entries) k ≡ kept_entry (get_or table.entries k None))
     → 68 ≤ sectors → sectors < 2 ^ 64 → AreWritable sectors table.entries → IsWritten sectors table image → ReadsAs sectors table image
 reads_as sectors table image disk-long count back some fits writable w =
     let p = header_reads sectors false table.disk w.checksum (sector image 1) some fits disk-long w.sums.fits w.primary in

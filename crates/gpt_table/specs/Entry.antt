@@ -35,7 +35,7 @@ is_bad first last None = false
 is_bad first last (Some entry) = nat_lt entry.last entry.first || nat_lt entry.first first || nat_lt last entry.last
 
 -- it is used, and lies between the tables at the start of a disk of that many sectors and its end
-pub record IsInside (sectors : ℕ) (entry : Entry) : Type 0 where
+pub record LiesBetweenTables (sectors : ℕ) (entry : Entry) : Type 0 where
   pub kind : is_nil_bytes entry.kind ≡ false
   pub behind_tables : 34 ≤ entry.first
   pub in_order : entry.first ≤ entry.last
@@ -49,6 +49,6 @@ slot_bytes (Some entry) =
     ++ little_bytes 8 entry.flags ++ entry.name
 
 -- what is read of an entry that was written: none where its kind is zero
-abbrev pub kept : Option Entry → Option Entry
-kept None = None
-kept (Some entry) = used entry
+abbrev pub kept_entry : Option Entry → Option Entry
+kept_entry None = None
+kept_entry (Some entry) = used entry

@@ -8,17 +8,17 @@ use Rattle.gpt_table.specs.declared.entry.Entry.{Entry}
 use Rattle.gpt_table.specs.declared.header.Header.{Header}
 use Rattle.gpt_table.specs.declared.fault.GptFault.{GptFault}
 use Rattle.gpt_table.specs.declared.fault.GptFault.TheVariants as faults
-use Rattle.gpt_table.specs.Entry.{slot_at, is_bad, IsInside, slot_bytes}
+use Rattle.gpt_table.specs.Entry.{slot_at, is_bad, LiesBetweenTables, slot_bytes}
 use Rattle.gpt_table.specs.Header.{IsValid, IsMisshapen, IsAbsent, IsHeaderSector, header_at, header_place, array_written, array_of}
 
 -- a table as contracts see it
-pub record Table : Type 0 where
+pub record EntryTable : Type 0 where
   pub disk : List ℕ  -- the disk's identifier
   pub entries : List (Option Entry)  -- the 128 entries
   pub from_backup : Bool
 
 -- the entry of that number, counted from 1
-abbrev pub entry_at : Table → ℕ → Option Entry
+abbrev pub entry_at : EntryTable → ℕ → Option Entry
 entry_at table number = if nat_eq number 0 then None else slice_index_or table.entries (number - 1) None
 
 -- the primary header is in use where it is valid, else the backup where that is valid; a primary header of
@@ -61,7 +61,7 @@ pub record IsFirstBad (header : Header) (array : List ℕ) (number : ℕ) : Type
   pub none_before : (k : ℕ) → k + 1 < number → is_bad_at header array k ≡ false
 
 -- the table of a disk of that many sectors
-pub record IsGptTable (sectors : ℕ) (image : List ℕ) (table : Table) : Type 0 where
+pub record IsGptTable (sectors : ℕ) (image : List ℕ) (table : EntryTable) : Type 0 where
   pub in_use : IsInUse sectors image table.from_backup
   pub disk : table.disk ≡ (header_in sectors image table.from_backup).disk
   pub entries :
@@ -78,16 +78,16 @@ HasGptFault sectors image faults.Device = Unit {0}
 HasGptFault sectors image faults.Memory = Unit {0}
 
 -- a disk has at most one table, and where it has one there is no reason against it
-abbrev pub OneTable : Type 0
-OneTable =
-    (sectors : ℕ) (image : List ℕ) (one : Table) → IsGptTable sectors image one
-    → ((other : Table) → IsGptTable sectors image other → other ≡ one)
+abbrev pub OneGptTable : Type 0
+OneGptTable =
+    (sectors : ℕ) (image : List ℕ) (one : EntryTable) → IsGptTable sectors image one
+    → ((other : EntryTable) → IsGptTable sectors image other → other ≡ one)
     × ((fault : GptFault) → HasGptFault sectors image fault → (fault ≡ faults.Device) ⊎ (fault ≡ faults.Memory))
 
 -- 128 entries, of which each used one lies on a disk of that many sectors
 pub record AreInside (sectors : ℕ) (entries : List (Option Entry)) : Type 0 where
   pub count : length entries ≡ 128
-  pub inside : (k : ℕ) (entry : Entry) → slice_index_or entries k None ≡ Some entry → IsInside sectors entry
+  pub inside : (k : ℕ) (entry : Entry) → slice_index_or entries k None ≡ Some entry → LiesBetweenTables sectors entry
 
 -- sector 0 of a disk of that many sectors: a head, a slot of type EE from sector 1 to the end, which takes the
 -- place of the disk's other tables, three unused slots, and the signature
@@ -102,7 +102,7 @@ abbrev pub array_bytes : List (Option Entry) → List ℕ
 array_bytes entries = flat_map slot_bytes entries
 
 -- an entry may stand in a table that is written for that many sectors
-pub record IsWritable (sectors : ℕ) (entry : Entry) : Type 0 where
+pub record MayBeWritten (sectors : ℕ) (entry : Entry) : Type 0 where
   pub kind : is_nil_bytes entry.kind ≡ false
   pub behind_tables : 34 ≤ entry.first
   pub in_order : entry.first ≤ entry.last
@@ -110,10 +110,10 @@ pub record IsWritable (sectors : ℕ) (entry : Entry) : Type 0 where
 
 abbrev pub AreWritable : ℕ → List (Option Entry) → Type 0
 AreWritable sectors entries =
-    (k : ℕ) (entry : Entry) → slice_index_or entries k None ≡ Some entry → IsWritable sectors entry
+    (k : ℕ) (entry : Entry) → slice_index_or entries k None ≡ Some entry → MayBeWritten sectors entry
 
 -- a disk of that many sectors on which both headers and both arrays of a table stand as they are written
-pub record IsWritten (sectors : ℕ) (table : Table) (image : List ℕ) : Type 0 where
+pub record IsWritten (sectors : ℕ) (table : EntryTable) (image : List ℕ) : Type 0 where
   pub checksum : ℕ
   pub sums : IsCrc32 (array_bytes table.entries) checksum
   pub primary : IsHeaderSector table.disk sectors false checksum (sector image 1)
@@ -122,13 +122,13 @@ pub record IsWritten (sectors : ℕ) (table : Table) (image : List ℕ) : Type 0
   pub backup_array : bytes_at image (512 * array_written sectors true) 16384 ≡ array_bytes table.entries
 
 -- a disk is read as that table, by its primary header, and both of its headers are valid
-pub record ReadsAs (sectors : ℕ) (table : Table) (image : List ℕ) : Type 0 where
+pub record ReadsAs (sectors : ℕ) (table : EntryTable) (image : List ℕ) : Type 0 where
   pub is_table : IsGptTable sectors image (record table { from_backup = false })
   pub primary : IsValid sectors 1 image
   pub backup : IsValid sectors (sectors - 1) image
 
 -- whatever disk that table is written on is read as it
-abbrev pub IsReadWhereWritten : Table → Type 0
+abbrev pub IsReadWhereWritten : EntryTable → Type 0
 IsReadWhereWritten table =
     (sectors : ℕ) (image : List ℕ) → 68 ≤ sectors → sectors < 2 ^ 64 → AreWritable sectors table.entries
     → IsWritten sectors table image → ReadsAs sectors table image

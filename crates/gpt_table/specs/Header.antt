@@ -56,7 +56,7 @@ pub record HasOtherShape (at : ℕ) (header : Header) (count size : ℕ) : Type 
   pub size_is : size ≡ header.entry_size
 
 -- an array of entries and usable sectors that lie where they may on a disk of that many sectors
-pub record ArePlaced (sectors : ℕ) (header : Header) : Type 0 where
+pub record LieOnDisk (sectors : ℕ) (header : Header) : Type 0 where
   pub array_inside : header.array + 32 ≤ sectors
   pub behind_tables : 34 ≤ header.first
   pub in_order : header.first ≤ header.last
@@ -66,7 +66,7 @@ pub record ArePlaced (sectors : ℕ) (header : Header) : Type 0 where
 pub record IsPlacedHeader (sectors at : ℕ) (header : Header) : Type 0 where
   pub sound : IsSound at header
   pub shape : HasShape header
-  pub placed : ArePlaced sectors header
+  pub placed : LieOnDisk sectors header
 
 -- the array of entries that a header names
 abbrev pub array_of : List ℕ → Header → List ℕ

@@ -17,9 +17,9 @@ pub struct Gpt {
 
 impl Model for Gpt {
     ghost use Rattle.std.specs.Prelude.{◌≡◌, length};
-    ghost use Rattle.gpt_table.specs.Gpt.{Table};
+    ghost use Rattle.gpt_table.specs.Gpt.{EntryTable};
 
-    ghost Value = { Table };
+    ghost Value = { EntryTable };
 
     ghost view = { λ g. record { disk = g.disk; entries = g.entries.items; from_backup = g.from_backup } };
 

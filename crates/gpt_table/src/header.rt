@@ -1,7 +1,7 @@
 //! The headers of a table.
 ghost use Rattle.std.specs.Prelude.{◌≡◌, ◌+◌, ◌≤◌, length, IsTrue, ◌↔◌};
 ghost use Rattle.disk_base.specs.Checksum.{IsCrc32};
-ghost use Rattle.gpt_table.specs.Header.{summed, header_of, IsSound, HasShape, ArePlaced};
+ghost use Rattle.gpt_table.specs.Header.{summed, header_of, IsSound, HasShape, LieOnDisk};
 ghost use Rattle.gpt_table.specs.inside.Reading.{IsJudged};
 
 use crate::entry::guid_in;
@@ -120,7 +120,7 @@ impl Header {
     /// Whether its array lies on a disk of that many sectors, and its usable sectors do so behind the
     /// tables.
     fn is_placed(&self, sectors: u64) -> bool
-        ensures { IsTrue result ↔ ArePlaced sectors self.now }
+        ensures { IsTrue result ↔ LieOnDisk sectors self.now }
     {
         sectors >= ARRAY_SECTORS
             && self.array <= sectors - ARRAY_SECTORS

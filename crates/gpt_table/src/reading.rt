@@ -3,8 +3,8 @@ ghost use Rattle.std.specs.Prelude.{◌≡◌, ◌+◌, ◌*◌, ◌^◌, ◌<�
 ghost use Rattle.disk_base.specs.Faults.{Rose};
 ghost use Rattle.disk_base.specs.Image.{bytes_at};
 ghost use Rattle.gpt_table.specs.Entry.{is_bad};
-ghost use Rattle.gpt_table.specs.Gpt.{IsGptTable, HasGptFault, AreInside, AreEntries, OneTable};
-ghost use Rattle.gpt_table.specs.inside.Reading.{IsHindered, IsFound, IsBounded, IsListFault, IsChosen, IsChoiceBounded, IsChoiceFault};
+ghost use Rattle.gpt_table.specs.Gpt.{IsGptTable, HasGptFault, AreInside, AreEntries, OneGptTable};
+ghost use Rattle.gpt_table.specs.inside.Reading.{IsHindered, IsHeaderFound, IsBounded, IsListFault, IsChosen, IsChoiceBounded, IsChoiceFault};
 
 use crate::entry::{Entry, slot_in};
 use crate::fault::GptFault;
@@ -55,7 +55,7 @@ fn read_array<B: Blocks>(alloc: Global, disk: &mut B, at: u64) -> Result<Vec<u8>
 fn look<B: Blocks>(alloc: Global, disk: &mut B, at: u64) -> Result<Found, GptFault>
     requires { B.size disk.old ≤ 2 ^ 31 }
     ensures read { B.only_read disk.old disk.new }
-    ensures found { IsTrue B.tells → IfOk result (λ found. IsFound (B.size disk.old) at (B.image disk.old) found) }
+    ensures found { IsTrue B.tells → IfOk result (λ found. IsHeaderFound (B.size disk.old) at (B.image disk.old) found) }
     ensures bounded { IfOk result (λ found. IsBounded (B.size disk.old) found) }
     ensures outside { B.size disk.old ≤ at → result ≡ Ok Found.Absent }
     ensures unread { B.size disk.old ≤ at → disk.new ≡ disk.old }
@@ -167,5 +167,5 @@ pub fn read_gpt<B: Blocks>(alloc: Global, disk: &mut B) -> Result<Gpt, GptFault>
 
 /// The law that a disk has at most one table, and no reason against it where it has one. A call does nothing.
 pub fn one_table()
-    ensures { OneTable }
+    ensures { OneGptTable }
 {}

@@ -3,7 +3,7 @@ ghost use Rattle.std.specs.Prelude.{◌≡◌, ℕ, ◌+◌, ◌^◌, ◌<◌, �
 ghost use Rattle.byteorder.specs.Endian.{little_bytes};
 ghost use Rattle.uuid.specs.Parts.{swap_fields};
 ghost use Rattle.disk_base.specs.Image.{with_bytes};
-ghost use Rattle.gpt_table.specs.Entry.{slot_at, entry_of, used, kept, slot_bytes};
+ghost use Rattle.gpt_table.specs.Entry.{slot_at, entry_of, used, kept_entry, slot_bytes};
 ghost use Rattle.gpt_table.specs.Header.{header_place, array_written, start_bytes, rest_bytes, header_bytes, IsHeaderSector};
 ghost use Rattle.gpt_table.specs.Gpt.{protective_bytes, array_bytes, IsReadWhereWritten};
 
@@ -75,7 +75,7 @@ fn entry_bytes(entry: &Entry) -> [u8; 128]
 /// The bytes of an entry, all zero where none is used.
 fn slot_bytes(slot: &Option<Entry>) -> [u8; 128]
     ensures bytes { result ≡ slot_bytes slot.now }
-    ensures read_back { used (entry_of result) ≡ kept slot.now }
+    ensures read_back { used (entry_of result) ≡ kept_entry slot.now }
     ensures long { length result ≡ 128 }
 {
     match slot {
@@ -104,7 +104,7 @@ pub fn protective_sector(head: &[u8; 446], sectors: u64, out: &mut [u8; 512])
 /// a kind and lies in the usable sectors.
 pub fn gpt_entries(gpt: &Gpt, out: &mut [u8; 16384])
     ensures bytes { out.new ≡ array_bytes gpt.now.entries }
-    ensures read_back { (k : ℕ) → k < 128 → slot_at out.new k ≡ kept (slice_index_or gpt.now.entries k None) }
+    ensures read_back { (k : ℕ) → k < 128 → slot_at out.new k ≡ kept_entry (slice_index_or gpt.now.entries k None) }
     ensures table { IsReadWhereWritten gpt.now }
 {
     // From here on it is known that the identifier has 16 bytes.

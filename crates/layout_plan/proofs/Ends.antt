@@ -12,8 +12,8 @@ use Rattle.layout_plan.specs.declared.wish.Layout.{Layout}
 use Rattle.layout_plan.specs.declared.wish.Wish.{Wish}
 use Rattle.layout_plan.specs.Faults.{AreAllowed}
 use Rattle.layout_plan.specs.Layouts.{IsLayout, end_from, no_piece, piece_at, spot_at}
-use Rattle.layout_plan.specs.Plans.{HasEnd, IsFitting, IsGreatest, IsLaid, IsTooMany, piece_of}
-use Rattle.layout_plan.specs.Roles.{is_extended}
+use Rattle.layout_plan.specs.Plans.{HasEnd, IsFitting, IsGreatest, IsLaid, IsTooMany, laid_piece}
+use Rattle.layout_plan.specs.Roles.{is_extended_role}
 use Rattle.layout_plan.specs.Source.{IsSource}
 use Rattle.layout_plan.specs.Tables.{floor_of}
 use Rattle.layout_plan.specs.Wishes.{flexible_part, is_flexible_wish, remaining, settled, wish_of}
@@ -31,7 +31,7 @@ pub record IsBetween (kind : Kind) (parts : List Part) (wishes : List Wish) (lay
   pub order : fitting < too_many
   pub to : too_many ≤ high
 
-length_plain : (role : Role) (count start : ℕ) → is_extended role ≡ false → count ≤ end_from role count start
+length_plain : (role : Role) (count start : ℕ) → is_extended_role role ≡ false → count ≤ end_from role count start
 length_plain Slot count start plain = omega arith
 length_plain Extended count start plain = absurd (cc plain)
 length_plain Logical count start plain = omega arith
@@ -45,20 +45,20 @@ module _ (kind : Kind) (parts : List Part) (wishes : List Wish) (layout : Layout
       one_order parts (remaining wishes parts) laid other (subst To (remaining_stays low wishes parts) x.the_remaining) (subst From (remaining_stays high wishes parts) y.the_remaining)
       x.in_turn y.in_turn
 
-  lengths_rise : (low high : ℕ) (laid : List Part) → low ≤ high → AtMost (map (piece_of (settled low wishes)) laid) (map (piece_of (settled high wishes)) laid)
+  lengths_rise : (low high : ℕ) (laid : List Part) → low ≤ high → AtMost (map (laid_piece (settled low wishes)) laid) (map (laid_piece (settled high wishes)) laid)
   lengths_rise low high laid less =
-      let long = length-map laid (piece_of (settled low wishes)) in
+      let long = length-map laid (laid_piece (settled low wishes)) in
       record {
-        as_many = long ∙ sym (length-map laid (piece_of (settled high wishes)));
+        as_many = long ∙ sym (length-map laid (laid_piece (settled high wishes)));
         roles = λ k within.
             let inside : k < length laid = omega arith in
-            let is_low = get_or-map (piece_of (settled low wishes)) laid k any_part no_piece inside in
-            let is_high = get_or-map (piece_of (settled high wishes)) laid k any_part no_piece inside in
+            let is_low = get_or-map (laid_piece (settled low wishes)) laid k any_part no_piece inside in
+            let is_high = get_or-map (laid_piece (settled high wishes)) laid k any_part no_piece inside in
             ap (λ (piece : Piece). piece.role) is_low ∙ sym (ap (λ (piece : Piece). piece.role) is_high);
         counts = λ k within.
             let inside : k < length laid = omega arith in
-            let is_low = ap (λ (piece : Piece). piece.count) (get_or-map (piece_of (settled low wishes)) laid k any_part no_piece inside) in
-            let is_high = ap (λ (piece : Piece). piece.count) (get_or-map (piece_of (settled high wishes)) laid k any_part no_piece inside) in
+            let is_low = ap (λ (piece : Piece). piece.count) (get_or-map (laid_piece (settled low wishes)) laid k any_part no_piece inside) in
+            let is_high = ap (λ (piece : Piece). piece.count) (get_or-map (laid_piece (settled high wishes)) laid k any_part no_piece inside) in
             omega (arith, is_low, is_high, wanted_rises low high wishes (slice_index_or laid k any_part) less);
       }
 
@@ -68,10 +68,10 @@ module _ (kind : Kind) (parts : List Part) (wishes : List Wish) (layout : Layout
       let Laid : List Part → Type 0 = λ laid. IsLaid kind parts (settled high wishes) layout laid y.spots in
       let same = sym (same_laid low high x.laid y.laid x.spots y.spots x.order y.order) in
       let order = subst Laid same y.order in
-      let lows = map (piece_of (settled low wishes)) x.laid in
-      let highs = map (piece_of (settled high wishes)) x.laid in
-      let long_low : length x.spots ≡ length x.laid = x.order.stand.as_many ∙ length-map x.laid (piece_of (settled low wishes)) in
-      let long_high : length y.spots ≡ length x.laid = order.stand.as_many ∙ length-map x.laid (piece_of (settled high wishes)) in
+      let lows = map (laid_piece (settled low wishes)) x.laid in
+      let highs = map (laid_piece (settled high wishes)) x.laid in
+      let long_low : length x.spots ≡ length x.laid = x.order.stand.as_many ∙ length-map x.laid (laid_piece (settled low wishes)) in
+      let long_high : length y.spots ≡ length x.laid = order.stand.as_many ∙ length-map x.laid (laid_piece (settled high wishes)) in
       elim (cases_eq (length x.laid) 0) [
         | inl none ↦ omega (arith, x.is_last, y.is_last, last_end_none (floor_of kind) x.spots (long_low ∙ none), last_end_none (floor_of kind) y.spots (long_high ∙ none))
         | inr some ↦
@@ -97,10 +97,10 @@ module _ (kind : Kind) (parts : List Part) (wishes : List Wish) (layout : Layout
       let place = stands.0 in
       let within : place < length x.laid = stands.1 in
       let is_part : slice_index_or x.laid place any_part ≡ part = get_or_default x.laid place any_part part within ∙ stands.2 in
-      let piece = piece_at (map (piece_of (settled sectors wishes)) x.laid) place in
-      let is_piece : piece ≡ piece_of (settled sectors wishes) part =
-      piece_is kind parts source wishes fine layout sectors x.laid x.spots x.order place within ∙ ap (piece_of (settled sectors wishes)) is_part in
-      let role : is_extended piece.role ≡ false = ap (λ (one : Piece). is_extended one.role) is_piece ∙ plain in
+      let piece = piece_at (map (laid_piece (settled sectors wishes)) x.laid) place in
+      let is_piece : piece ≡ laid_piece (settled sectors wishes) part =
+      piece_is kind parts source wishes fine layout sectors x.laid x.spots x.order place within ∙ ap (laid_piece (settled sectors wishes)) is_part in
+      let role : is_extended_role piece.role ≡ false = ap (λ (one : Piece). is_extended_role one.role) is_piece ∙ plain in
       let count : piece.count ≡ sectors = ap (λ (one : Piece). one.count) is_piece ∙ wanted_is sectors wishes part flexible in
       let past = (line kind parts source wishes fine layout sectors x.laid x.spots x.order place within).past in
       let by = by_last kind parts source wishes fine layout sectors x.laid x.spots x.order place within in

@@ -5,7 +5,7 @@ use Rattle.std.proofs.lemmas.Grind.{common_steps}
 use Rattle.layout_plan.specs.declared.part.Kind.TheVariants.{Gpt}
 use Rattle.layout_plan.specs.declared.part.Part.{Part}
 use Rattle.layout_plan.specs.declared.part.Role.TheVariants.{Slot}
-use Rattle.layout_plan.specs.Roles.{is_extended, is_logical}
+use Rattle.layout_plan.specs.Roles.{is_extended_role, is_logical}
 use Rattle.layout_plan.specs.Source.{IsSource}
 use Rattle.layout_plan.specs.Tables.{first_number, last_number}
 
@@ -63,7 +63,7 @@ are_source n parts are few = record {
       omega (arith, low.start, high.start, same);
   one_extended = λ i j d before within extended.
       let high = are.each j d (omega (arith, are.as_many)) in
-      ap is_extended high.slot;
+      ap is_extended_role high.slot;
   inside = λ k d within logical.
       let is = are.each k d (omega (arith, are.as_many)) in
       let plain : is_logical (slice_index_or parts k d).role ≡ false = ap is_logical is.slot in

@@ -9,7 +9,7 @@ use Rattle.layout_plan.specs.declared.wish.Layout.{Layout}
 use Rattle.layout_plan.specs.declared.wish.What.{What}
 use Rattle.layout_plan.specs.declared.wish.What.TheVariants.{Expand, Shrink, Resize, Force, Delete, Ignore}
 use Rattle.layout_plan.specs.declared.wish.Wish.{Wish}
-use Rattle.layout_plan.specs.Faults.{IsDue, length_fault}
+use Rattle.layout_plan.specs.Faults.{PassesRules, length_fault}
 use Rattle.layout_plan.specs.Plans.{IsRight, IsRightFor}
 use Rattle.layout_plan.specs.Wishes.{asked_length, flexible_part, is_deleted, is_flexible_wish, remaining, settled, wanted, wish_of}
 use Rattle.layout_plan.proofs.Named.{finds, found_passes, isnt_deleted, was_there}
@@ -44,7 +44,7 @@ right_some kind parts wishes layout limit sectors part (Some (Force size)) flexi
 right_some kind parts wishes layout limit sectors part (Some Delete) flexible x = absurd (cc flexible)
 right_some kind parts wishes layout limit sectors part (Some Ignore) flexible x = absurd (cc flexible)
 
-pub some_wanted : (kind : Kind) (parts : List Part) (wishes : List Wish) (layout : Layout) (target limit sectors : ℕ) → IsDue kind parts wishes target
+pub some_wanted : (kind : Kind) (parts : List Part) (wishes : List Wish) (layout : Layout) (target limit sectors : ℕ) → PassesRules kind parts wishes target
     → IsRight kind parts wishes layout limit sectors (flexible_part wishes parts) → (part : Part) → Contains (remaining wishes parts) part → 1 ≤ wanted (settled sectors wishes) part
 some_wanted kind parts wishes layout target limit sectors due right part there =
     let was = was_there wishes parts part there in

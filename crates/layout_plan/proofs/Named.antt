@@ -12,7 +12,7 @@ use Rattle.layout_plan.specs.declared.wish.What.{What}
 use Rattle.layout_plan.specs.declared.wish.What.TheVariants.{Expand, Shrink, Resize, Force, Delete, Ignore}
 use Rattle.layout_plan.specs.declared.wish.Wish.{Wish}
 use Rattle.layout_plan.specs.Faults.{AreAllowed, wish_fault}
-use Rattle.layout_plan.specs.Roles.{is_extended, is_logical}
+use Rattle.layout_plan.specs.Roles.{is_extended_role, is_logical}
 use Rattle.layout_plan.specs.Wishes.{is_delete, is_deleted, is_flexible_wish, is_gone, keeps_logical, remaining, what_of, wish_of}
 
 -- what is found passes the test
@@ -91,17 +91,17 @@ isnt_gone wishes parts part there =
 
 pub isnt_deleted : (wishes : List Wish) (parts : List Part) (part : Part) → Contains (remaining wishes parts) part → is_deleted wishes part ≡ false
 isnt_deleted wishes parts part there =
-    let parts_of = or_parts (is_deleted wishes part) (is_extended part.role && not (keeps_logical wishes parts)) (isnt_gone wishes parts part there) in
+    let parts_of = or_parts (is_deleted wishes part) (is_extended_role part.role && not (keeps_logical wishes parts)) (isnt_gone wishes parts part there) in
     parts_of.0
 
 -- a wish that is fine names no extended partition
 names_plain : (parts : List Part) (earlier : List Wish) (wish : Wish) → wish_fault parts earlier wish ≡ None
-    → list_any (λ (part : Part). part.number == wish.part && is_extended part.role) parts ≡ false
+    → list_any (λ (part : Part). part.number == wish.part && is_extended_role part.role) parts ≡ false
 names_plain parts earlier wish fine =
     elim (cases_Bool (list_any (λ (part : Part). part.number == wish.part) parts)) [
       | inl there ↦ elim (cases_Bool (list_any (λ (other : Wish). other.part == wish.part) earlier)) [
         | inl again ↦ let told : Some (NamedTwice wish.place) ≡ None = rw (there, again) at fine in absurd (cc told)
-        | inr first ↦ elim (cases_Bool (list_any (λ (part : Part). part.number == wish.part && is_extended part.role) parts)) [
+        | inr first ↦ elim (cases_Bool (list_any (λ (part : Part). part.number == wish.part && is_extended_role part.role) parts)) [
           | inl outer ↦ let told : Some (NamesExtended wish.place) ≡ None = rw (there, first, outer) at fine in absurd (cc told)
           | inr plain ↦ plain
         ]
@@ -110,29 +110,29 @@ names_plain parts earlier wish fine =
     ]
 
 module _ (parts : List Part) (wishes : List Wish) (fine : AreAllowed parts wishes) where
-  found_plain : (part : Part) (found : Option Wish) → find (λ (wish : Wish). wish.part == part.number) wishes ≡ found → Contains parts part → is_extended part.role ≡ true → what_of found ≡ None
+  found_plain : (part : Part) (found : Option Wish) → find (λ (wish : Wish). wish.part == part.number) wishes ≡ found → Contains parts part → is_extended_role part.role ≡ true → what_of found ≡ None
   found_plain part None is there outer = refl
   found_plain part (Some wish) is there outer =
       let place = found_there (λ (wish : Wish). wish.part == part.number) wishes wish is in
       let number : wish.part ≡ part.number = eqb-true wish.part part.number (found_passes (λ (wish : Wish). wish.part == part.number) wishes wish is) in
-      let Fine : Wish → Type 0 = λ one. list_any (λ (part : Part). part.number == one.part && is_extended part.role) parts ≡ false in
+      let Fine : Wish → Type 0 = λ one. list_any (λ (part : Part). part.number == one.part && is_extended_role part.role) parts ≡ false in
       let none : Fine wish = subst Fine place.2 (names_plain parts (take place.0 wishes) (slice_index_or wishes place.0 wish) (fine place.0 wish place.1)) in
-      let names : (part.number == wish.part && is_extended part.role) ≡ true = and_from (part.number == wish.part) (is_extended part.role) (eq-eqb part.number wish.part (sym number)) outer in
-      let At : Part → Type 0 = λ one. (one.number == wish.part && is_extended one.role) ≡ true in
-      let some = list_any_at (λ (one : Part). one.number == wish.part && is_extended one.role) parts there.0 part there.1 (subst At (sym there.2) names) in
+      let names : (part.number == wish.part && is_extended_role part.role) ≡ true = and_from (part.number == wish.part) (is_extended_role part.role) (eq-eqb part.number wish.part (sym number)) outer in
+      let At : Part → Type 0 = λ one. (one.number == wish.part && is_extended_role one.role) ≡ true in
+      let some = list_any_at (λ (one : Part). one.number == wish.part && is_extended_role one.role) parts there.0 part there.1 (subst At (sym there.2) names) in
       absurd (both_ways _ none some)
 
   -- so nothing is wished of the extended partition
-  pub outer_unnamed : (part : Part) → Contains parts part → is_extended part.role ≡ true → wish_of wishes part.number ≡ None
+  pub outer_unnamed : (part : Part) → Contains parts part → is_extended_role part.role ≡ true → wish_of wishes part.number ≡ None
   outer_unnamed part there outer = found_plain part (find (λ (wish : Wish). wish.part == part.number) wishes) refl there outer
 
-  pub outer_undeleted : (part : Part) → Contains parts part → is_extended part.role ≡ true → is_deleted wishes part ≡ false
+  pub outer_undeleted : (part : Part) → Contains parts part → is_extended_role part.role ≡ true → is_deleted wishes part ≡ false
   outer_undeleted part there outer = rw (outer_unnamed part there outer) refl
 
   -- and one that takes or gives up isn't the extended one
-  pub flexible_is_plain : (part : Part) → Contains parts part → is_flexible_wish (wish_of wishes part.number) ≡ true → is_extended part.role ≡ false
+  pub flexible_is_plain : (part : Part) → Contains parts part → is_flexible_wish (wish_of wishes part.number) ≡ true → is_extended_role part.role ≡ false
   flexible_is_plain part there flexible =
-      elim (cases_Bool (is_extended part.role)) [
+      elim (cases_Bool (is_extended_role part.role)) [
         | inl outer ↦
             let none = outer_unnamed part there outer in
             let told : false ≡ true = rw none at flexible in
@@ -157,7 +157,7 @@ flexible_stays parts wishes part fine there flexible =
     let gone : is_gone wishes parts part ≡ false = rw (made, plain) refl in
     stays wishes parts part there gone
 
-pub plain_logical : (role : Role) → is_logical role ≡ true → is_extended role ≡ false
+pub plain_logical : (role : Role) → is_logical role ≡ true → is_extended_role role ≡ false
 plain_logical Slot logical = absurd (cc logical)
 plain_logical Extended logical = absurd (cc logical)
 plain_logical Logical logical = refl
@@ -173,7 +173,7 @@ some_left wishes parts part there logical =
     list_any_at (λ (one : Part). is_logical one.role && not (is_deleted wishes one)) parts was.0 part was.1 (subst At (sym was.2) passes)
 
 -- and the extended partition remains
-pub outer_stays : (parts : List Part) (wishes : List Wish) (outer : Part) → AreAllowed parts wishes → Contains parts outer → is_extended outer.role ≡ true → keeps_logical wishes parts ≡ true
+pub outer_stays : (parts : List Part) (wishes : List Wish) (outer : Part) → AreAllowed parts wishes → Contains parts outer → is_extended_role outer.role ≡ true → keeps_logical wishes parts ≡ true
     → Contains (remaining wishes parts) outer
 outer_stays parts wishes outer fine there extended left =
     let made = outer_undeleted parts wishes fine outer there extended in

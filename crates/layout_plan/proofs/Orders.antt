@@ -14,7 +14,7 @@ use Rattle.layout_plan.specs.declared.part.Role.TheVariants.{Slot, Extended, Log
 use Rattle.layout_plan.specs.declared.wish.Layout.{Layout}
 use Rattle.layout_plan.specs.declared.wish.Wish.{Wish}
 use Rattle.layout_plan.specs.Layouts.{IsLayout, spot_at}
-use Rattle.layout_plan.specs.Plans.{Begins, ComesBefore, HasLength, IsLeastStart, IsLaid, IsLogicalEnd, StandsAt, ArePlaced, IsLeastFree, IsExtra, IsExtraPart, is_taken, piece_of}
+use Rattle.layout_plan.specs.Plans.{Begins, ComesBefore, HasLength, IsLeastStart, IsLaid, IsLogicalEnd, StandsAt, ArePlaced, IsLeastFree, IsExtra, IsExtraPart, is_taken, laid_piece}
 use Rattle.layout_plan.specs.Tables.{floor_of, most_numbers}
 use Rattle.layout_plan.specs.Wishes.{remaining}
 use Rattle.layout_plan.proofs.Lines.{one_at_most}
@@ -139,11 +139,11 @@ module _ (kind : Kind) (parts : List Part) (wishes : List Wish) (layout : Layout
 
   pub one_line : (laid : List Part) (spots other : List Spot) → IsLaid kind parts wishes layout laid spots → IsLaid kind parts wishes layout laid other → spots ≡ other
   one_line laid spots other x y =
-      let pieces = map (piece_of wishes) laid in
+      let pieces = map (laid_piece wishes) laid in
       let long : length spots ≡ length pieces = x.stand.as_many in
       let as_long : length other ≡ length pieces = y.stand.as_many in
       elim (cases_eq (length laid) 0) [
-        | inl none ↦ same_lists spots other (long ∙ sym as_long) (λ k d within. absurd (omega (arith, length-map laid (piece_of wishes))))
+        | inl none ↦ same_lists spots other (long ∙ sym as_long) (λ k d within. absurd (omega (arith, length-map laid (laid_piece wishes))))
         | inr some ↦
             let same : x.begin ≡ y.begin = one_begin kind layout parts x.begin y.begin (some_part laid x.the_remaining some) x.begins y.begins in
             let P : ℕ → Type 0 = λ begin. IsLayout layout.align begin pieces spots in

@@ -12,7 +12,7 @@ use Rattle.layout_plan.specs.declared.wish.What.TheVariants.{Delete}
 use Rattle.layout_plan.specs.declared.wish.Wish.{Wish}
 use Rattle.layout_plan.specs.Faults.{AreAllowed, IsFirstBadLength, IsFirstBadWish, length_fault, wish_fault, would_cut}
 use Rattle.layout_plan.specs.Refusals.{HasNoPlan}
-use Rattle.layout_plan.specs.Roles.{is_extended}
+use Rattle.layout_plan.specs.Roles.{is_extended_role}
 use Rattle.layout_plan.specs.Tables.{HasRoom}
 use Rattle.layout_plan.specs.Wishes.{is_deleted, wanted, wish_of}
 
@@ -32,7 +32,7 @@ wish_fault_of P parts earlier wish fault is missing twice extended =
             let told : Some (NamedTwice wish.place) ≡ Some fault = rw (there, again) at is in
             let same : NamedTwice wish.place ≡ fault = cc told in
             subst P same twice
-        | inr first ↦ elim (cases_Bool (list_any (λ (part : Part). part.number == wish.part && is_extended part.role) parts)) [
+        | inr first ↦ elim (cases_Bool (list_any (λ (part : Part). part.number == wish.part && is_extended_role part.role) parts)) [
           | inl outer ↦
               let told : Some (Extended wish.place) ≡ Some fault = rw (there, first, outer) at is in
               let same : Extended wish.place ≡ fault = cc told in

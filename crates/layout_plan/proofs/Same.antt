@@ -6,7 +6,7 @@ use Rattle.layout_plan.specs.declared.line.Spot.{Spot}
 use Rattle.layout_plan.specs.declared.part.Part.{Part}
 use Rattle.layout_plan.specs.declared.part.Placed.{Placed}
 use Rattle.layout_plan.specs.Plans.{ArePlaced, IsPlaced, IsSameOrder, NoneHollow}
-use Rattle.layout_plan.specs.Roles.{has_logical, is_extended, is_logical, same_class}
+use Rattle.layout_plan.specs.Roles.{has_logical, is_extended_role, is_logical, same_class}
 use Rattle.layout_plan.specs.Wishes.{is_deleted, is_gone, keeps_logical, makes_room, number_of, remaining}
 use Rattle.layout_plan.proofs.Numbers.{count_no}
 use Rattle.layout_plan.proofs.Sound.{length_of_plain}
@@ -21,15 +21,15 @@ logical_left : (parts : List Part) → has_logical parts ≡ true → keeps_logi
 unfolding keeps_logical
 logical_left parts some = sym (none_deleted parts) ∙ some
 
-none_gone : (all : List Part) (part : Part) → (is_extended part.role ≡ true → has_logical all ≡ true) → is_gone [] all part ≡ false
+none_gone : (all : List Part) (part : Part) → (is_extended_role part.role ≡ true → has_logical all ≡ true) → is_gone [] all part ≡ false
 none_gone all part solid =
-    elim (cases_Bool (is_extended part.role)) [
+    elim (cases_Bool (is_extended_role part.role)) [
       | inl outer ↦ let left = logical_left all (solid outer) in rw (outer, left) refl
       | inr plain ↦ rw plain refl
     ]
 
 abbrev Solid : List Part → List Part → Type 0
-Solid all parts = All (λ (part : Part). is_extended part.role ≡ true → has_logical all ≡ true) parts
+Solid all parts = All (λ (part : Part). is_extended_role part.role ≡ true → has_logical all ≡ true) parts
 
 all_remain_of : (all parts : List Part) → Solid all parts → filter (λ (part : Part). not (is_gone [] all part)) parts ≡ parts
 all_remain_of all [] solid = refl

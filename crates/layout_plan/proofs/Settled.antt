@@ -7,7 +7,7 @@ use Rattle.layout_plan.specs.declared.part.Part.{Part}
 use Rattle.layout_plan.specs.declared.wish.What.{What}
 use Rattle.layout_plan.specs.declared.wish.What.TheVariants.{Expand, Shrink, Resize, Force, Delete, Ignore}
 use Rattle.layout_plan.specs.declared.wish.Wish.{Wish}
-use Rattle.layout_plan.specs.Roles.{is_extended, is_logical}
+use Rattle.layout_plan.specs.Roles.{is_extended_role, is_logical}
 use Rattle.layout_plan.specs.Wishes.{asked_length, is_delete, is_deleted, is_flexible_wish, is_gone, keeps_logical, remaining, settle_what, settled, wanted, wish_of}
 
 -- what is wished of a part, settled
@@ -51,7 +51,7 @@ keeps_stays sectors wishes parts = logical_stays sectors wishes parts
 -- the same parts aren't made
 pub gone_stays : (sectors : ℕ) (wishes : List Wish) (parts : List Part) (part : Part) → is_gone (settled sectors wishes) parts part ≡ is_gone wishes parts part
 gone_stays sectors wishes parts part =
-    let Gone : Bool → Bool → Bool = λ deleted keeps. deleted || is_extended part.role && not keeps in
+    let Gone : Bool → Bool → Bool = λ deleted keeps. deleted || is_extended_role part.role && not keeps in
     ap (λ deleted. Gone deleted (keeps_logical (settled sectors wishes) parts)) (deleted_stays sectors wishes part)
     ∙ ap (λ keeps. Gone (is_deleted wishes part) keeps) (keeps_stays sectors wishes parts)
 

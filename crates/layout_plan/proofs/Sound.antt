@@ -19,8 +19,8 @@ use Rattle.layout_plan.specs.declared.wish.What.TheVariants.{Expand, Shrink, Res
 use Rattle.layout_plan.specs.declared.wish.Wish.{Wish}
 use Rattle.layout_plan.specs.Faults.{AreAllowed}
 use Rattle.layout_plan.specs.Layouts.{end_from, last_end, piece_at, spot_at}
-use Rattle.layout_plan.specs.Plans.{Apart, AreFrom, AreNumbered, ArePlaced, ComesBefore, HasLength, IsAround, IsBehind, IsExtra, IsInside, IsLaid, IsLogicalEnd, IsPlaced, KeepApart, KeepApartAs, StandsAt, extended_start, first_of, role_by, role_of, turn}
-use Rattle.layout_plan.specs.Roles.{is_extended, is_logical, same_class}
+use Rattle.layout_plan.specs.Plans.{Apart, AreFrom, AreNumbered, ArePlaced, ComesBefore, HasLength, IsAround, IsBehind, IsExtra, IsPlacedInside, IsLaid, IsLogicalEnd, IsPlaced, KeepApart, KeepApartAs, StandsAt, extended_start, first_of, role_by, role_of, turn}
+use Rattle.layout_plan.specs.Roles.{is_extended_role, is_logical, same_class}
 use Rattle.layout_plan.specs.Source.{IsPart, IsSource}
 use Rattle.layout_plan.specs.Tables.{HasNumber, floor_of, last_number, most_numbers}
 use Rattle.layout_plan.specs.Wishes.{fate_under, remaining, settled, wanted, wish_of}
@@ -57,19 +57,19 @@ role_told Slot what old new ebr bare record_there = let none : (ebr == 0) ≡ tr
 role_told Extended what old new ebr bare record_there = refl
 role_told Logical what old new ebr bare record_there = let some : (ebr == 0) ≡ false = ne_eqb ebr 0 (record_there refl) in role_at_logical what old new (ebr == 0) ∙ rw some refl
 
-pub length_of_plain : (role : Role) (wishes : List Wish) (laid : List Part) (spots : List Spot) (part : Part) (start count : ℕ) → is_extended role ≡ false → HasLength role wishes laid spots part start count
+pub length_of_plain : (role : Role) (wishes : List Wish) (laid : List Part) (spots : List Spot) (part : Part) (start count : ℕ) → is_extended_role role ≡ false → HasLength role wishes laid spots part start count
     → count ≡ wanted wishes part
 length_of_plain Slot wishes laid spots part start count plain x = x
 length_of_plain Extended wishes laid spots part start count plain x = absurd (cc plain)
 length_of_plain Logical wishes laid spots part start count plain x = x
 
-length_of_outer : (role : Role) (wishes : List Wish) (laid : List Part) (spots : List Spot) (part : Part) (start count : ℕ) → is_extended role ≡ true → HasLength role wishes laid spots part start count
+length_of_outer : (role : Role) (wishes : List Wish) (laid : List Part) (spots : List Spot) (part : Part) (start count : ℕ) → is_extended_role role ≡ true → HasLength role wishes laid spots part start count
     → IsLogicalEnd laid spots (start + count)
 length_of_outer Slot wishes laid spots part start count extended x = absurd (cc extended)
 length_of_outer Extended wishes laid spots part start count extended x = x
 length_of_outer Logical wishes laid spots part start count extended x = absurd (cc extended)
 
-end_plain : (role : Role) (count start : ℕ) → is_extended role ≡ false → end_from role count start ≡ start + count
+end_plain : (role : Role) (count start : ℕ) → is_extended_role role ≡ false → end_from role count start ≡ start + count
 end_plain Slot count start plain = refl
 end_plain Extended count start plain = absurd (cc plain)
 end_plain Logical count start plain = refl
@@ -80,10 +80,10 @@ flipped p q (inr x) = inl x
 
 -- two partitions lie as they have to, by what they are
 keep_apart_as : (r s : Role) (p q : Placed)
-    → (is_extended r ≡ false → is_extended s ≡ false → Apart p q)
-    → (is_extended r ≡ true → is_logical s ≡ true → IsAround p q) → (is_logical r ≡ true → is_extended s ≡ true → IsAround q p)
-    → (is_extended r ≡ true → is_extended s ≡ false → is_logical s ≡ false → Apart p q) → (is_extended s ≡ true → is_extended r ≡ false → is_logical r ≡ false → Apart q p)
-    → (is_extended r ≡ true → is_extended s ≡ true → ⊥) → KeepApartAs r s p q
+    → (is_extended_role r ≡ false → is_extended_role s ≡ false → Apart p q)
+    → (is_extended_role r ≡ true → is_logical s ≡ true → IsAround p q) → (is_logical r ≡ true → is_extended_role s ≡ true → IsAround q p)
+    → (is_extended_role r ≡ true → is_extended_role s ≡ false → is_logical s ≡ false → Apart p q) → (is_extended_role s ≡ true → is_extended_role r ≡ false → is_logical r ≡ false → Apart q p)
+    → (is_extended_role r ≡ true → is_extended_role s ≡ true → ⊥) → KeepApartAs r s p q
 keep_apart_as Slot Slot p q plain around inside outer inner both = plain refl refl
 keep_apart_as Slot Extended p q plain around inside outer inner both = flipped q p (inner refl refl refl)
 keep_apart_as Slot Logical p q plain around inside outer inner both = plain refl refl
@@ -146,28 +146,28 @@ module _ (kind : Kind) (parts : List Part) (source : IsSource kind parts) (wishe
       ∙ role_told part.role (wish_of all part.number) part.count (wanted all part) one.ebr
       (λ plain. is_record ∙ past.no_record (role ∙ plain)) (λ logical none. past.some_record (role ∙ logical) (sym is_record ∙ none))
 
-  count_is : (part : Part) (one : Placed) → Made part one → is_extended part.role ≡ false → one.count ≡ wanted all part
+  count_is : (part : Part) (one : Placed) → Made part one → is_extended_role part.role ≡ false → one.count ≡ wanted all part
   count_is part one x plain = length_of_plain part.role all laid spots part one.start one.count plain x.count
 
-  end_is : (part : Part) (one : Placed) → (x : Made part one) → is_extended part.role ≡ false → one.start + one.count ≡ (spot_at spots x.stands.place).end
+  end_is : (part : Part) (one : Placed) → (x : Made part one) → is_extended_role part.role ≡ false → one.start + one.count ≡ (spot_at spots x.stands.place).end
   end_is part one x plain =
       let place = x.stands.place in
       let piece = piece_at (pieces kind parts source wishes fine layout sectors laid spots order) place in
       let past = (in_line_at place x.stands.within).past in
       let is_piece = piece_for part x.spot x.stands in
-      let role : is_extended piece.role ≡ false = ap (λ (one : Piece). is_extended one.role) is_piece ∙ plain in
+      let role : is_extended_role piece.role ≡ false = ap (λ (one : Piece). is_extended_role one.role) is_piece ∙ plain in
       let count : piece.count ≡ wanted all part = ap (λ (one : Piece). one.count) is_piece in
       omega (arith, count, count_is part one x plain, start_is part one x, past.ends, end_plain piece.role piece.count (spot_at spots place).start role)
 
-  outer_ends : (part : Part) (one : Placed) → Made part one → is_extended part.role ≡ true → IsLogicalEnd laid spots (one.start + one.count)
+  outer_ends : (part : Part) (one : Placed) → Made part one → is_extended_role part.role ≡ true → IsLogicalEnd laid spots (one.start + one.count)
   outer_ends part one x extended = length_of_outer part.role all laid spots part one.start one.count extended x.count
 
   -- the extended partition's spot, so far, ends at its start
-  outer_starts : (part : Part) (one : Placed) → (x : Made part one) → is_extended part.role ≡ true → (spot_at spots x.stands.place).end ≡ one.start
+  outer_starts : (part : Part) (one : Placed) → (x : Made part one) → is_extended_role part.role ≡ true → (spot_at spots x.stands.place).end ≡ one.start
   outer_starts part one x extended =
       sym (ap (λ (spot : Spot). spot.end) x.stands.there) ∙ outer_end kind parts source wishes fine layout sectors laid spots order part x.spot x.stands extended ∙ sym x.same_start
 
-  outer_leads : (part : Part) (one : Placed) → (x : Made part one) → (extended : is_extended part.role ≡ true) → (last : ℕ) → (inner : IsLogicalEnd laid spots last) → x.stands.place < inner.place
+  outer_leads : (part : Part) (one : Placed) → (x : Made part one) → (extended : is_extended_role part.role ≡ true) → (last : ℕ) → (inner : IsLogicalEnd laid spots last) → x.stands.place < inner.place
   outer_leads part one x extended last inner = outer_first kind parts source wishes fine layout sectors laid spots order part x.spot last x.stands extended inner
 
   other_places : (one other : Part) (p q : Placed) → (x : Made one p) → (y : Made other q) → one.number ≢ other.number → x.stands.place ≢ y.stands.place
@@ -176,7 +176,7 @@ module _ (kind : Kind) (parts : List Part) (source : IsSource kind parts) (wishe
       let second = part_at kind parts source wishes fine layout sectors laid spots order other y.spot y.stands in
       differ (ap (λ (part : Part). part.number) (sym first ∙ ap (λ (k : ℕ). slice_index_or laid k any_part) same ∙ second))
 
-  plain_apart : (one other : Part) (p q : Placed) → Made one p → Made other q → one.number ≢ other.number → is_extended one.role ≡ false → is_extended other.role ≡ false → Apart p q
+  plain_apart : (one other : Part) (p q : Placed) → Made one p → Made other q → one.number ≢ other.number → is_extended_role one.role ≡ false → is_extended_role other.role ≡ false → Apart p q
   plain_apart one other p q x y differ plain as_plain =
       elim (cases_order x.stands.place y.stands.place) [
         | inl same ↦ absurd (other_places one other p q x y differ same)
@@ -193,7 +193,7 @@ module _ (kind : Kind) (parts : List Part) (source : IsSource kind parts) (wishe
   role_there : (part : Part) (one : Placed) → (x : Made part one) → (test : Role → Bool) (b : Bool) → test part.role ≡ b → test (slice_index_or laid x.stands.place any_part).role ≡ b
   role_there part one x test b is = ap (λ (part : Part). test part.role) (part_at kind parts source wishes fine layout sectors laid spots order part x.spot x.stands) ∙ is
 
-  around : (outer inner : Part) (p q : Placed) → Made outer p → Made inner q → is_extended outer.role ≡ true → is_logical inner.role ≡ true → IsAround p q
+  around : (outer inner : Part) (p q : Placed) → Made outer p → Made inner q → is_extended_role outer.role ≡ true → is_logical inner.role ≡ true → IsAround p q
   around outer inner p q x y extended logical =
       let last = outer_ends outer p x extended in
       let to = y.stands.place in
@@ -201,7 +201,7 @@ module _ (kind : Kind) (parts : List Part) (source : IsSource kind parts) (wishe
       let at = in_line_at to within in
       let plain = plain_logical inner.role logical in
       let before : x.stands.place < to =
-      outer_before kind parts source wishes fine layout sectors laid spots order x.stands.place to x.stands.within within (role_there outer p x is_extended true extended) (role_there inner q y is_logical true logical) in
+      outer_before kind parts source wishes fine layout sectors laid spots order x.stands.place to x.stands.within within (role_there outer p x is_extended_role true extended) (role_there inner q y is_logical true logical) in
       record {
         from = omega (arith, outer_starts outer p x extended, at.behind x.stands.place before, first_is inner q y);
         to = elim (cases_order to last.place) [
@@ -221,13 +221,13 @@ module _ (kind : Kind) (parts : List Part) (source : IsSource kind parts) (wishe
   no_later_turn : (one other : Part) → ComesBefore parts one other → turn parts one ≤ turn parts other
   no_later_turn one other before = elim before [ inl less ↦ omega arith | inr tie ↦ let same = tie.0 in omega arith ]
 
-  outer_is_plain : (role : Role) → is_extended role ≡ true → is_logical role ≡ false
+  outer_is_plain : (role : Role) → is_extended_role role ≡ true → is_logical role ≡ false
   outer_is_plain Slot extended = absurd (cc extended)
   outer_is_plain Extended extended = refl
   outer_is_plain Logical extended = absurd (cc extended)
 
   -- no slot stands between the extended partition and a logical one
-  none_between : (e s p : ℕ) → e < s → s < p → p < length laid → is_extended (slice_index_or laid e any_part).role ≡ true → is_extended (slice_index_or laid s any_part).role ≡ false
+  none_between : (e s p : ℕ) → e < s → s < p → p < length laid → is_extended_role (slice_index_or laid e any_part).role ≡ true → is_extended_role (slice_index_or laid s any_part).role ≡ false
       → is_logical (slice_index_or laid s any_part).role ≡ false → is_logical (slice_index_or laid p any_part).role ≡ true → ⊥
   none_between e s p early late within extended not_extended not_logical logical =
       let outer = slice_index_or laid e any_part in
@@ -246,18 +246,18 @@ module _ (kind : Kind) (parts : List Part) (source : IsSource kind parts) (wishe
       let at_y : (slice_index_or parts y.0 slot).start ≡ slot.start = ap (λ (part : Part). part.start) y.2 in
       let is_outer : slice_index_or parts x.0 slot ≡ outer = get_or_default parts x.0 slot outer x.1 ∙ x.2 in
       let at_x : (slice_index_or parts x.0 slot).start ≡ outer.start = ap (λ (part : Part). part.start) is_outer in
-      let is_extended_x : is_extended (slice_index_or parts x.0 slot).role ≡ true = ap (λ (part : Part). is_extended part.role) is_outer ∙ extended in
+      let is_extended_x : is_extended_role (slice_index_or parts x.0 slot).role ≡ true = ap (λ (part : Part). is_extended_role part.role) is_outer ∙ extended in
       elim (cases_order x.0 y.0) [
         | inl place ↦
             let is : outer ≡ slot = sym is_outer ∙ ap (λ (k : ℕ). slice_index_or parts k slot) place ∙ y.2 in
-            both_ways _ not_extended (sym (ap (λ (part : Part). is_extended part.role) is) ∙ extended)
+            both_ways _ not_extended (sym (ap (λ (part : Part). is_extended_role part.role) is) ∙ extended)
         | inr apart ↦ elim apart [
-          | inl before ↦ source.other_starts x.0 y.0 slot before y.1 (or_left _ (is_extended (slice_index_or parts y.0 slot).role) is_extended_x) (at_x ∙ sym same ∙ sym at_y)
-          | inr after ↦ source.other_starts y.0 x.0 slot after x.1 (or_right (is_extended (slice_index_or parts y.0 slot).role) _ is_extended_x) (at_y ∙ same ∙ sym at_x)
+          | inl before ↦ source.other_starts x.0 y.0 slot before y.1 (or_left _ (is_extended_role (slice_index_or parts y.0 slot).role) is_extended_x) (at_x ∙ sym same ∙ sym at_y)
+          | inr after ↦ source.other_starts y.0 x.0 slot after x.1 (or_right (is_extended_role (slice_index_or parts y.0 slot).role) _ is_extended_x) (at_y ∙ same ∙ sym at_x)
         ]
       ]
 
-  slot_apart : (outer slot : Part) (p q : Placed) → Made outer p → Made slot q → outer.number ≢ slot.number → is_extended outer.role ≡ true → is_extended slot.role ≡ false → is_logical slot.role ≡ false
+  slot_apart : (outer slot : Part) (p q : Placed) → Made outer p → Made slot q → outer.number ≢ slot.number → is_extended_role outer.role ≡ true → is_extended_role slot.role ≡ false → is_logical slot.role ≡ false
       → Apart p q
   slot_apart outer slot p q x y differ extended not_extended not_logical =
       let last = outer_ends outer p x extended in
@@ -279,7 +279,7 @@ module _ (kind : Kind) (parts : List Part) (source : IsSource kind parts) (wishe
                   inl (omega (arith, last.there, first_is slot q y, behind))
               | inr late ↦
                   absurd
-                  (none_between e s last.place before late last.within (role_there outer p x is_extended true extended) (role_there slot q y is_extended false not_extended)
+                  (none_between e s last.place before late last.within (role_there outer p x is_extended_role true extended) (role_there slot q y is_extended_role false not_extended)
                   (role_there slot q y is_logical false not_logical) (last.logical any_part))
             ]
           ]
@@ -320,7 +320,7 @@ module _ (kind : Kind) (parts : List Part) (source : IsSource kind parts) (wishe
 
   placed_some : (part : Part) (one : Placed) → Contains (remaining wishes parts) part → Made part one → 1 ≤ one.count
   placed_some part one there x =
-      elim (cases_Bool (is_extended part.role)) [
+      elim (cases_Bool (is_extended_role part.role)) [
         | inr plain ↦ omega (arith, count_is part one x plain, some part there)
         | inl extended ↦
             let last = outer_ends part one x extended in
@@ -329,7 +329,7 @@ module _ (kind : Kind) (parts : List Part) (source : IsSource kind parts) (wishe
             let inner = slice_index_or laid last.place any_part in
             let piece = piece_at (pieces kind parts source wishes fine layout sectors laid spots order) last.place in
             let is_piece = piece_is kind parts source wishes fine layout sectors laid spots order last.place last.within in
-            let role : is_extended piece.role ≡ false = ap (λ (one : Piece). is_extended one.role) is_piece ∙ plain_logical inner.role (last.logical any_part) in
+            let role : is_extended_role piece.role ≡ false = ap (λ (one : Piece). is_extended_role one.role) is_piece ∙ plain_logical inner.role (last.logical any_part) in
             let count : piece.count ≡ wanted all inner = ap (λ (one : Piece). one.count) is_piece in
             let ends = at.past.ends ∙ end_plain piece.role piece.count (spot_at spots last.place).start role in
             omega (arith, outer_starts part one x extended, at.behind x.stands.place leads, at.past.to, ends, count, laid_some last.place last.within, last.there)
@@ -337,7 +337,7 @@ module _ (kind : Kind) (parts : List Part) (source : IsSource kind parts) (wishe
 
   placed_ends : (part : Part) (one : Placed) → Made part one → one.start + one.count ≤ last_end (floor_of kind) spots
   placed_ends part one x =
-      elim (cases_Bool (is_extended part.role)) [
+      elim (cases_Bool (is_extended_role part.role)) [
         | inr plain ↦ omega (arith, end_is part one x plain, by_the_last x.stands.place x.stands.within)
         | inl extended ↦ let last = outer_ends part one x extended in omega (arith, last.there, by_the_last last.place last.within)
       ]
@@ -386,7 +386,7 @@ module _ (kind : Kind) (parts : List Part) (source : IsSource kind parts) (wishe
         let less = lower_at i j before within in
         keep_apart one other (slice_index_or placed i d) (slice_index_or placed j d) (part_there i early) (part_there j within) (made_at i d early) (made_at j d within) (omega arith)
 
-    pub all_inside : (limit : ℕ) → last_end (floor_of kind) spots ≤ limit → All (IsInside kind limit) placed
+    pub all_inside : (limit : ℕ) → last_end (floor_of kind) spots ≤ limit → All (IsPlacedInside kind limit) placed
     all_inside limit fits k d within =
         let part = slice_index_or (remaining wishes parts) k any_part in
         let one = slice_index_or placed k d in

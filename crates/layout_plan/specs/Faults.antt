@@ -8,7 +8,7 @@ use Rattle.layout_plan.specs.declared.part.Part.{Part}
 use Rattle.layout_plan.specs.declared.wish.Wish.{Wish}
 use Rattle.layout_plan.specs.declared.wish.What.{What}
 use Rattle.layout_plan.specs.declared.wish.What.TheVariants.{Resize}
-use Rattle.layout_plan.specs.Roles.{is_extended}
+use Rattle.layout_plan.specs.Roles.{is_extended_role}
 use Rattle.layout_plan.specs.Tables.{HasRoom}
 use Rattle.layout_plan.specs.Wishes.{wish_of, wanted, is_deleted}
 
@@ -17,7 +17,7 @@ abbrev pub wish_fault : List Part → List Wish → Wish → Option NoPlan
 wish_fault parts earlier wish =
     if list_any (λ (part : Part). part.number == wish.part) parts then
     (if list_any (λ (other : Wish). other.part == wish.part) earlier then Some (NamedTwice wish.place)
-    else (if list_any (λ (part : Part). part.number == wish.part && is_extended part.role) parts then Some (Extended wish.place) else None))
+    else (if list_any (λ (part : Part). part.number == wish.part && is_extended_role part.role) parts then Some (Extended wish.place) else None))
     else Some (NoSuchPart wish.place)
 
 -- whether a wish may not cut a part's content, and would
@@ -38,7 +38,7 @@ abbrev pub AreAllowed : List Part → List Wish → Type 0
 AreAllowed parts wishes = (k : ℕ) (d : Wish) → k < length wishes → wish_fault parts (take k wishes) (slice_index_or wishes k d) ≡ None
 
 -- no rule that comes before the layout refuses
-pub record IsDue (kind : Kind) (parts : List Part) (wishes : List Wish) (sectors : ℕ) : Type 0 where
+pub record PassesRules (kind : Kind) (parts : List Part) (wishes : List Wish) (sectors : ℕ) : Type 0 where
   pub room : HasRoom kind sectors
   pub asked : AreAllowed parts wishes
   pub lengths : All (λ (part : Part). length_fault wishes part ≡ None) parts

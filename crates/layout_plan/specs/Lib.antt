@@ -8,4 +8,5 @@ pub mod Faults
 pub mod Layouts
 pub mod Plans
 pub mod Refusals
+pub mod Texts
 pub mod inside

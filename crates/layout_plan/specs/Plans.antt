@@ -15,9 +15,9 @@ use Rattle.layout_plan.specs.declared.wish.What.{What}
 use Rattle.layout_plan.specs.declared.wish.What.TheVariants.{Expand, Shrink}
 use Rattle.layout_plan.specs.declared.wish.Wish.{Wish}
 use Rattle.layout_plan.specs.Alignment.{IsNext}
-use Rattle.layout_plan.specs.Faults.{IsDue}
+use Rattle.layout_plan.specs.Faults.{PassesRules}
 use Rattle.layout_plan.specs.Layouts.{IsLayout, Fits, last_end, spot_at}
-use Rattle.layout_plan.specs.Roles.{has_logical, is_extended, is_logical}
+use Rattle.layout_plan.specs.Roles.{has_logical, is_extended_role, is_logical}
 use Rattle.layout_plan.specs.Tables.{HasNumber, floor_of, limit_of, most_numbers}
 use Rattle.layout_plan.specs.Wishes.{wanted, remaining, number_of, fate_of, flexible_part, settled, wish_of}
 
@@ -44,7 +44,7 @@ start_of (Some part) = part.start
 
 -- where the extended partition starts
 unfoldable pub extended_start : List Part → ℕ
-extended_start parts = start_of (find (λ (part : Part). is_extended part.role) parts)
+extended_start parts = start_of (find (λ (part : Part). is_extended_role part.role) parts)
 
 -- where the turn of a part is: a logical partition has that of the extended one, any other part that of its start
 abbrev pub turn : List Part → Part → ℕ
@@ -56,8 +56,8 @@ ComesBefore parts one other =
     (turn parts one < turn parts other) ⊎ ((turn parts one ≡ turn parts other) × (one.number < other.number))
 
 -- a part as it is laid out
-abbrev pub piece_of : List Wish → Part → Piece
-piece_of wishes part = record { role = part.role; count = wanted wishes part }
+abbrev pub laid_piece : List Wish → Part → Piece
+laid_piece wishes part = record { role = part.role; count = wanted wishes part }
 
 -- laid is what remains of the parts, each at its turn, and spots is where each one comes to stand
 pub record IsLaid (kind : Kind) (parts : List Part) (wishes : List Wish) (layout : Layout) (laid : List Part) (spots : List Spot) : Type 0 where
@@ -65,7 +65,7 @@ pub record IsLaid (kind : Kind) (parts : List Part) (wishes : List Wish) (layout
   pub the_remaining : IsPermutation (remaining wishes parts) laid
   pub in_turn : AllPairs (ComesBefore parts) laid
   pub begins : Begins kind layout parts begin
-  pub stand : IsLayout layout.align begin (map (piece_of wishes) laid) spots
+  pub stand : IsLayout layout.align begin (map (laid_piece wishes) laid) spots
 
 -- the part stands at that place among those that are laid out, and spot is where it comes to stand
 pub record StandsAt (laid : List Part) (spots : List Spot) (part : Part) (spot : Spot) : Type 0 where
@@ -198,7 +198,7 @@ IsRight kind parts wishes layout limit sectors (Some part) = IsRightFor kind par
 -- what is planned is the layout of the parts that remain, and the layout fits; sectors are those of the part that takes
 -- or gives up
 pub record IsPlan (kind : Kind) (parts : List Part) (wishes : List Wish) (layout : Layout) (target : ℕ) (planned : Plan) : Type 0 where
-  pub due : IsDue kind parts wishes target
+  pub due : PassesRules kind parts wishes target
   pub sectors : ℕ
   pub right : IsRight kind parts wishes layout (limit_of kind target) sectors (flexible_part wishes parts)
   pub laid : List Part
@@ -249,7 +249,7 @@ abbrev pub KeepApart : Placed → Placed → Type 0
 KeepApart one other = KeepApartAs (role_of one) (role_of other) one other
 
 -- behind the table and before the limit, with at least one sector, and with its boot record before it
-pub record IsInside (kind : Kind) (limit : ℕ) (placed : Placed) : Type 0 where
+pub record IsPlacedInside (kind : Kind) (limit : ℕ) (placed : Placed) : Type 0 where
   pub behind_table : floor_of kind ≤ first_of placed
   pub record_before : placed.ebr < placed.start
   pub some : 1 ≤ placed.count
@@ -267,7 +267,7 @@ pub record AreFrom (parts : List Part) (placed : List Placed) : Type 0 where
 
 -- no extended partition is without a logical one
 abbrev pub NoneHollow : List Part → Type 0
-NoneHollow parts = All (λ (part : Part). is_extended part.role ≡ true → has_logical parts ≡ true) parts
+NoneHollow parts = All (λ (part : Part). is_extended_role part.role ≡ true → has_logical parts ≡ true) parts
 
 -- each part of the source in its order, with its number and, but for the extended one, its length
 pub record IsSameOrder (parts : List Part) (placed : List Placed) : Type 0 where
@@ -275,7 +275,7 @@ pub record IsSameOrder (parts : List Part) (placed : List Placed) : Type 0 where
   pub each : (k : ℕ) (p : Part) (q : Placed) → k < length parts
       → let part = slice_index_or parts k p in
       let one = slice_index_or placed k q in
-      (one.from ≡ part.number) × (one.number ≡ part.number) × (is_extended part.role ≡ false → one.count ≡ part.count)
+      (one.from ≡ part.number) × (one.number ≡ part.number) × (is_extended_role part.role ≡ false → one.count ≡ part.count)
 
 -- where no extended partition is without a logical one, each part is kept
 abbrev pub KeepsOrder : List Part → List Placed → Type 0
@@ -283,7 +283,7 @@ KeepsOrder parts placed = NoneHollow parts → IsSameOrder parts placed
 
 -- the partition beside the parts stands behind each of them, and has a number of its own
 pub record IsBehind (kind : Kind) (placed : List Placed) (limit : ℕ) (one : Placed) : Type 0 where
-  pub inside : IsInside kind limit one
+  pub inside : IsPlacedInside kind limit one
   pub last : All (λ (part : Placed). part.start + part.count ≤ one.start) placed
   pub numbered : HasNumber kind Slot one.number
   pub other_numbers : All (λ (part : Placed). part.number ≢ one.number) placed

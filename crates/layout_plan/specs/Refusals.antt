@@ -8,7 +8,7 @@ use Rattle.layout_plan.specs.declared.wish.Layout.{Layout}
 use Rattle.layout_plan.specs.declared.wish.What.{What}
 use Rattle.layout_plan.specs.declared.wish.What.TheVariants.{Expand, Shrink}
 use Rattle.layout_plan.specs.declared.wish.Wish.{Wish}
-use Rattle.layout_plan.specs.Faults.{IsDue, IsWishFault, IsLengthFault}
+use Rattle.layout_plan.specs.Faults.{PassesRules, IsWishFault, IsLengthFault}
 use Rattle.layout_plan.specs.Plans.{Plan, HasEnd, IsGreatest, IsPlan, IsTooMany}
 use Rattle.layout_plan.specs.Tables.{limit_of, least_disk}
 use Rattle.layout_plan.specs.Wishes.{flexible_part, wish_of}
@@ -26,7 +26,7 @@ least_sectors wishes (Some part) = least_for part (wish_of wishes part.number)
 
 -- the layout of the parts that remain ends at last, behind the limit
 pub record IsTooLong (kind : Kind) (parts : List Part) (wishes : List Wish) (layout : Layout) (target last limit : ℕ) : Type 0 where
-  pub due : IsDue kind parts wishes target
+  pub due : PassesRules kind parts wishes target
   pub is_last : HasEnd kind parts wishes layout (least_sectors wishes (flexible_part wishes parts)) last
   pub is_limit : limit ≡ limit_of kind target
   pub too_long : limit < last
@@ -38,7 +38,7 @@ pub record IsFlexible (parts : List Part) (wishes : List Wish) (what : What) (pa
 
 -- a part would take what is left over, and nothing is
 pub record HasNoSurplus (kind : Kind) (parts : List Part) (wishes : List Wish) (layout : Layout) (target limit : ℕ) : Type 0 where
-  pub due : IsDue kind parts wishes target
+  pub due : PassesRules kind parts wishes target
   pub part : Part
   pub takes : IsFlexible parts wishes Expand part
   pub is_limit : limit ≡ limit_of kind target
@@ -46,7 +46,7 @@ pub record HasNoSurplus (kind : Kind) (parts : List Part) (wishes : List Wish) (
 
 -- a part would give up what is lacking, and nothing is
 pub record HasNoDeficit (kind : Kind) (parts : List Part) (wishes : List Wish) (layout : Layout) (target last : ℕ) : Type 0 where
-  pub due : IsDue kind parts wishes target
+  pub due : PassesRules kind parts wishes target
   pub part : Part
   pub gives_up : IsFlexible parts wishes Shrink part
   pub is_last : HasEnd kind parts wishes layout part.count last
@@ -54,7 +54,7 @@ pub record HasNoDeficit (kind : Kind) (parts : List Part) (wishes : List Wish) (
 
 -- the part of that number would have to give up some of its content
 pub record HasToCut (kind : Kind) (parts : List Part) (wishes : List Wish) (layout : Layout) (target number content sectors : ℕ) : Type 0 where
-  pub due : IsDue kind parts wishes target
+  pub due : PassesRules kind parts wishes target
   pub part : Part
   pub gives_up : IsFlexible parts wishes Shrink part
   pub is_number : number ≡ part.number

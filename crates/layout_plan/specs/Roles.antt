@@ -5,10 +5,10 @@ use Rattle.layout_plan.specs.declared.part.Part.{Part}
 use Rattle.layout_plan.specs.declared.part.Role.{Role}
 use Rattle.layout_plan.specs.declared.part.Role.TheVariants.{Slot, Extended, Logical}
 
-abbrev pub is_extended : Role → Bool
-is_extended Extended = true
-is_extended Slot = false
-is_extended Logical = false
+abbrev pub is_extended_role : Role → Bool
+is_extended_role Extended = true
+is_extended_role Slot = false
+is_extended_role Logical = false
 
 abbrev pub is_logical : Role → Bool
 is_logical Logical = true

@@ -10,7 +10,7 @@ use Rattle.layout_plan.specs.declared.wish.Wish.{Wish}
 use Rattle.layout_plan.specs.declared.wish.What.{What}
 use Rattle.layout_plan.specs.declared.wish.What.TheVariants.{Expand, Shrink, Resize, Force, Delete, Ignore}
 use Rattle.layout_plan.specs.declared.wish.Size.TheVariants.{Bytes}
-use Rattle.layout_plan.specs.Roles.{is_extended, is_logical, same_class}
+use Rattle.layout_plan.specs.Roles.{is_extended_role, is_logical, same_class}
 use Rattle.layout_plan.specs.Size.{wanted_sectors}
 
 -- whether a wish is that a part takes what the others leave over, or gives up what they lack
@@ -74,7 +74,7 @@ keeps_logical wishes parts = list_any (λ (part : Part). is_logical part.role &&
 
 -- whether a part isn't made: it is deleted, or it is the extended one and no logical one is left
 abbrev pub is_gone : List Wish → List Part → Part → Bool
-is_gone wishes parts part = is_deleted wishes part || (is_extended part.role && not (keeps_logical wishes parts))
+is_gone wishes parts part = is_deleted wishes part || (is_extended_role part.role && not (keeps_logical wishes parts))
 
 -- the parts that are made, in their order
 abbrev pub remaining : List Wish → List Part → List Part

@@ -1,6 +1,6 @@
 //! The partitions of a source, and where a plan places them.
 ghost use Rattle.std.specs.Prelude.{◌≡◌};
-ghost use Rattle.layout_plan.specs.Roles.{is_extended, is_logical, same_class};
+ghost use Rattle.layout_plan.specs.Roles.{is_extended_role, is_logical, same_class};
 
 /// The kind of a partition table.
 #[derive(Clone, Copy, Debug, PartialEq, Eq)]
@@ -21,7 +21,7 @@ pub enum Role {
 impl Role {
     /// Whether it is the extended slot.
     pub(crate) fn is_extended(self) -> bool
-        ensures { result ≡ is_extended self }
+        ensures { result ≡ is_extended_role self }
     {
         matches!(self, Role::Extended)
     }

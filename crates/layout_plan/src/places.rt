@@ -2,7 +2,7 @@
 ghost use Rattle.std.specs.Prelude.{◌≡◌, ◌≢◌, ℕ, ◌^◌, ◌≤◌, true, length, AllPairs, Contains, IfOk};
 ghost use Rattle.layout_plan.specs.declared.part.Part.{Part};
 ghost use Rattle.layout_plan.specs.Plans.{IsLogicalEnd, StandsAt};
-ghost use Rattle.layout_plan.specs.Roles.{has_logical, is_extended};
+ghost use Rattle.layout_plan.specs.Roles.{has_logical, is_extended_role};
 ghost use Rattle.layout_plan.specs.Wishes.{remaining};
 ghost use Rattle.layout_plan.specs.inside.Tasks.{EndsBehind, HasLengthIn, IsLaidOut, Makes, MakesAll};
 
@@ -48,8 +48,8 @@ fn logical_end(laid: &[Part], spots: &[Spot]) -> u64
 fn length_of(laid: &Laid, part: &Part, start: u64) -> u64
     requires small { part.now.count ≤ 2 ^ 31 }
     requires as_many { length laid.now.spots.items ≡ length laid.now.parts.items }
-    requires some { is_extended part.now.role ≡ true → has_logical laid.now.parts.items ≡ true }
-    requires around { is_extended part.now.role ≡ true → EndsBehind laid.now start }
+    requires some { is_extended_role part.now.role ≡ true → has_logical laid.now.parts.items ≡ true }
+    requires around { is_extended_role part.now.role ≡ true → EndsBehind laid.now start }
     ensures { HasLengthIn laid.now part.now start result }
 {
     match part.role {

@@ -1,6 +1,6 @@
 //! The plan of a job.
 ghost use Rattle.std.specs.Prelude.{◌≡◌, ℕ, [], ◌≤◌, ◌-◌, All, AllPairs, IfOk, IfErr, IfSome};
-ghost use Rattle.layout_plan.specs.Plans.{AreFrom, AreNumbered, IsBehind, IsInside, IsPlan, KeepApart, KeepsOrder};
+ghost use Rattle.layout_plan.specs.Plans.{AreFrom, AreNumbered, IsBehind, IsPlacedInside, IsPlan, KeepApart, KeepsOrder};
 ghost use Rattle.layout_plan.specs.Refusals.{HasNoPlan, OnePlan};
 ghost use Rattle.layout_plan.specs.Source.{IsSource};
 ghost use Rattle.layout_plan.specs.Tables.{least_disk, limit_of};
@@ -78,7 +78,7 @@ pub fn plan(
 
     // The partitions lie apart, the logical ones inside the extended one, behind the table and before the limit.
     ensures apart { IfOk result (λ planned. AllPairs KeepApart planned.parts) }
-    ensures inside { IfOk result (λ planned. All (IsInside kind planned.limit) planned.parts) }
+    ensures inside { IfOk result (λ planned. All (IsPlacedInside kind planned.limit) planned.parts) }
     ensures behind { IfOk result (λ planned. IfSome planned.extra (IsBehind kind planned.parts planned.limit)) }
     ensures limit { IfOk result (λ planned. planned.limit ≤ sectors) }
 {

@@ -2,7 +2,7 @@
 ghost use Rattle.std.specs.Prelude.{◌≡◌, ℕ, ◌*◌, ◌^◌, ◌≤◌, length, map, All, IfOk};
 ghost use Rattle.layout_plan.specs.declared.line.Piece.{Piece};
 ghost use Rattle.layout_plan.specs.declared.part.Part.{Part};
-ghost use Rattle.layout_plan.specs.Plans.{piece_of};
+ghost use Rattle.layout_plan.specs.Plans.{laid_piece};
 ghost use Rattle.layout_plan.specs.Size.{wanted_sectors};
 ghost use Rattle.layout_plan.specs.Wishes.{asked_length, fate_of, is_delete, is_deleted, is_gone, keeps_logical, makes_room, number_of, remaining, wanted, wish_of};
 
@@ -123,7 +123,7 @@ pub fn number_of(wishes: &[Wish], parts: &[Part], part: &Part) -> u32
 /// The parts as they are laid out, with the lengths that they shall have.
 pub fn pieces_of(alloc: Global, wishes: &[Wish], parts: &[Part]) -> Result<Vec<Piece>, AllocError>
     requires { All (λ (part : Part). part.count ≤ 2 ^ 31) parts.now }
-    ensures pieces { IfOk result (λ pieces. pieces.items ≡ map (piece_of wishes.now) parts.now) }
+    ensures pieces { IfOk result (λ pieces. pieces.items ≡ map (laid_piece wishes.now) parts.now) }
     ensures few { IfOk result (λ pieces. All (λ (piece : Piece). piece.count ≤ 10 ^ 17) pieces.items) }
 {
     let mut pieces = Vec::new(alloc);

@@ -1,7 +1,7 @@
 //! What a plan is made of, once the wishes and the lengths are judged.
 ghost use Rattle.std.specs.Prelude.{◌≡◌, ◌≤◌};
 ghost use Rattle.std.proofs.Props.{props};
-ghost use Rattle.layout_plan.specs.Faults.{IsDue};
+ghost use Rattle.layout_plan.specs.Faults.{PassesRules};
 ghost use Rattle.layout_plan.specs.Source.{IsSource};
 ghost use Rattle.layout_plan.specs.Tables.{limit_of};
 
@@ -21,6 +21,6 @@ pub struct Task<'a> {
     ghost source: { IsSource kind parts.now },
     ghost some_align: { 1 ≤ layout.now.align },
     ghost small_align: { layout.now.align ≤ 1048576 },
-    ghost due: { IsDue kind parts.now wishes.now target },
+    ghost due: { PassesRules kind parts.now wishes.now target },
     ghost is_limit: { limit ≡ limit_of kind target },
 }

@@ -3,7 +3,7 @@ ghost use Rattle.std.specs.Prelude.{◌≡◌, ℕ, ◌^◌, ◌<◌, ◌≤◌,
 ghost use Rattle.std.specs.List.{list_any};
 ghost use Rattle.layout_plan.specs.declared.part.Part.{Part};
 ghost use Rattle.layout_plan.specs.declared.wish.Wish.{Wish};
-ghost use Rattle.layout_plan.specs.Roles.{is_extended};
+ghost use Rattle.layout_plan.specs.Roles.{is_extended_role};
 ghost use Rattle.layout_plan.specs.Faults.{AreAllowed, IsFirstBadLength, IsFirstBadWish, length_fault, wish_fault, would_cut};
 
 use crate::fault::NoPlan;
@@ -20,7 +20,7 @@ fn has_part(parts: &[Part], number: u32) -> bool
 
 /// Whether the part of that number is the extended one.
 fn has_extended(parts: &[Part], number: u32) -> bool
-    ensures { result ≡ list_any (λ (part : Part). part.number == number && is_extended part.role) parts.now }
+    ensures { result ≡ list_any (λ (part : Part). part.number == number && is_extended_role part.role) parts.now }
 {
     parts
         .iter()

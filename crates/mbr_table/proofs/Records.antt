@@ -11,7 +11,7 @@ use Rattle.disk_base.specs.Image.{bytes_at, sector}
 use Rattle.mbr_table.specs.declared.slot.Slot.{Slot}
 use Rattle.mbr_table.specs.declared.slot.Logical.{Logical}
 use Rattle.mbr_table.specs.Signature.{HasSignature}
-use Rattle.mbr_table.specs.Slot.{slot_of, empty_slot, is_used, holds_extended, kept, entry_of}
+use Rattle.mbr_table.specs.Slot.{slot_of, empty_slot, is_used, holds_extended, kept_slot, slot_entry}
 use Rattle.mbr_table.specs.Chain.{own_of, link_of, next_of, own_logical, logical_of, due_at, logicals_at, LiesBehind, IsGoodRecord, IsChain, AreChained, IsLogicalIn}
 use Rattle.mbr_table.specs.Record.{link_slot, link_entry_of, ebr_sector_of, own_slot, link_to, AreWritten, HasRecords}
 use Rattle.mbr_table.specs.Mbr.{Table, IsSectorTable, IsMbrTable}
@@ -27,11 +27,11 @@ regrouped : (f e l z a b sig : List ℕ) → z ≡ a ++ (b ++ []) → f ++ e ++ 
 regrouped f e l z a b sig z-is = rw z-is (simp append_assoc)
 
 -- the parts of a record's sector
-ebr_parts : (own : Slot) (next : Option (ℕ × ℕ)) → Parts (replicate 446 0) (entry_of own) (link_entry_of next) (replicate 16 0) (replicate 16 0) (ebr_sector_of own next)
+ebr_parts : (own : Slot) (next : Option (ℕ × ℕ)) → Parts (replicate 446 0) (slot_entry own) (link_entry_of next) (replicate 16 0) (replicate 16 0) (ebr_sector_of own next)
 unfolding ebr_sector_of
 ebr_parts own next =
-    four_parts (replicate 446 0) (entry_of own) (link_entry_of next) (replicate 16 0) (replicate 16 0) (ebr_sector_of own next)
-    (regrouped (replicate 446 0) (entry_of own) (link_entry_of next) (replicate 32 0) (replicate 16 0) (replicate 16 0) (0x55 ∷ 0xAA ∷ []) refl)
+    four_parts (replicate 446 0) (slot_entry own) (link_entry_of next) (replicate 16 0) (replicate 16 0) (ebr_sector_of own next)
+    (regrouped (replicate 446 0) (slot_entry own) (link_entry_of next) (replicate 32 0) (replicate 16 0) (replicate 16 0) (0x55 ∷ 0xAA ∷ []) refl)
     (length-replicate {A = ℕ} 446 0) (length-entry_of own) (length-link_entry_of next) refl refl
 
 -- it has the signature
@@ -39,7 +39,7 @@ pub record_signed : (own : Slot) (next : Option (ℕ × ℕ)) → HasSignature (
 record_signed own next = (ebr_parts own next).signature
 
 -- and is read as its own slot, where that slot's entry is
-pub own_reads_back : (own : Slot) (next : Option (ℕ × ℕ)) → slot_of (entry_of own) ≡ kept own → own_of (ebr_sector_of own next) ≡ kept own
+pub own_reads_back : (own : Slot) (next : Option (ℕ × ℕ)) → slot_of (slot_entry own) ≡ kept_slot own → own_of (ebr_sector_of own next) ≡ kept_slot own
 unfolding own_of
 own_reads_back own next back = ap slot_of (ebr_parts own next).first ∙ back
 
@@ -76,7 +76,7 @@ put_more old new bytes front at to front-is put to-is =
     ap (λ (k : ℕ). take k new) (sym to-is) ∙ put ∙ ap (λ (l : List ℕ). l ++ bytes) front-is
 
 -- the parts of a record's sector, put one after the other
-pub record_written : (own : Slot) (next : Option (ℕ × ℕ)) (o0 o1 o2 o3 o4 o5 e l : List ℕ) → e ≡ entry_of own → l ≡ link_entry_of next → length o5 ≡ 512
+pub record_written : (own : Slot) (next : Option (ℕ × ℕ)) (o0 o1 o2 o3 o4 o5 e l : List ℕ) → e ≡ slot_entry own → l ≡ link_entry_of next → length o5 ≡ 512
     → take 446 o1 ≡ take 0 o0 ++ replicate 446 0
     → take (446 + length e) o2 ≡ take 446 o1 ++ e → take (462 + length l) o3 ≡ take 462 o2 ++ l
     → take 510 o4 ≡ take 478 o3 ++ replicate 32 0 → take 512 o5 ≡ take 510 o4 ++ 0x55 ∷ 0xAA ∷ []
@@ -92,7 +92,7 @@ record_written own next o0 o1 o2 o3 o4 o5 e l e-is l-is long p1 p2 p3 p4 p5 =
     let all : take 512 o5 ≡ replicate 446 0 ++ e ++ l ++ replicate 32 0 ++ 0x55 ∷ 0xAA ∷ [] = p5 ∙ ap (λ (x : List ℕ). x ++ 0x55 ∷ 0xAA ∷ []) with_zeros in
     sym (take_all 512 o5 (omega arith)) ∙ all
     ∙ ap (λ (x : List ℕ). replicate 446 0 ++ x ++ l ++ replicate 32 0 ++ 0x55 ∷ 0xAA ∷ []) e-is
-    ∙ ap (λ (x : List ℕ). replicate 446 0 ++ entry_of own ++ x ++ replicate 32 0 ++ 0x55 ∷ 0xAA ∷ []) l-is
+    ∙ ap (λ (x : List ℕ). replicate 446 0 ++ slot_entry own ++ x ++ replicate 32 0 ++ 0x55 ∷ 0xAA ∷ []) l-is
 
 pub start_back : (next : Option (ℕ × ℕ)) (bytes : List ℕ) → bytes ≡ link_entry_of next
     → MatchOption next (slot_of bytes ≡ empty_slot) (λ link. slot_of bytes ≡ link_slot link) → StartReadsBack next

@@ -9,9 +9,9 @@ use Rattle.mbr_table.specs.declared.slot.Slot.{Slot}
 use Rattle.mbr_table.specs.declared.slot.Logical.{Logical}
 use Rattle.mbr_table.specs.declared.fault.MbrFault.{MbrFault}
 use Rattle.mbr_table.specs.declared.fault.MbrFault.TheVariants.{NoSignature, Entry, Chain, TooMany, Device, Memory}
-use Rattle.mbr_table.specs.Slot.{slot_of, empty_slot, kept, entry_of, end_of, is_used, is_extended, holds_extended, is_bad, IsBadEntry}
+use Rattle.mbr_table.specs.Slot.{slot_of, empty_slot, kept_slot, slot_entry, slot_end, is_used, is_extended, holds_extended, is_bad_slot, IsBadEntry}
 use Rattle.mbr_table.specs.Signature.{HasSignature}
-use Rattle.mbr_table.specs.Mbr.{Table, slots_of, IsSound, IsFirstBad, IsOfDisk, IsSectorTable, IsMbrTable, IsSectorFault, HasMbrFault, AreLogicals, HasExtended, mbr_sector_of, table_of, ReadsBack}
+use Rattle.mbr_table.specs.Mbr.{Table, slots_of, AreSound, IsFirstBadSlot, IsOfDisk, IsSectorTable, IsMbrTable, IsSectorFault, HasMbrFault, AreLogicals, HasExtended, mbr_sector_of, table_of, ReadsBack}
 use Rattle.mbr_table.specs.Chain.{AreChained, ComesToBad, ComesTooFar, logicals_at}
 use Rattle.mbr_table.specs.inside.Walk.{IsLogicalsFault}
 use Rattle.mbr_table.proofs.Chains.{one_chain_at_most, none_bad, none_too_far, one_bad, one_too_far, not_both}
@@ -67,15 +67,15 @@ list4 p q r s p' q' r' s' p-is q-is r-is s-is = cc
 
 -- what is written for slots that read back one by one reads back
 pub sector_reads_back : (front : List ℕ) (slots : List Slot) → length front ≡ 446 → length slots ≡ 4
-    → ((i : ℕ) → i < 4 → slot_of (entry_of (get_or slots i empty_slot)) ≡ kept (get_or slots i empty_slot))
+    → ((i : ℕ) → i < 4 → slot_of (slot_entry (get_or slots i empty_slot)) ≡ kept_slot (get_or slots i empty_slot))
     → ReadsBack front slots (mbr_sector_of front slots)
 sector_reads_back front [] len four each = absurd (omega arith)
 sector_reads_back front (p ∷ []) len four each = absurd (omega arith)
 sector_reads_back front (p ∷ q ∷ []) len four each = absurd (omega arith)
 sector_reads_back front (p ∷ q ∷ r ∷ []) len four each = absurd (omega arith)
 sector_reads_back front (p ∷ q ∷ r ∷ s ∷ []) len four each =
-    let parts : Parts front (entry_of p) (entry_of q) (entry_of r) (entry_of s) (mbr_sector_of front (p ∷ q ∷ r ∷ s ∷ [])) =
-    four_parts front (entry_of p) (entry_of q) (entry_of r) (entry_of s) _ refl len (length-entry_of p) (length-entry_of q) (length-entry_of r) (length-entry_of s) in
+    let parts : Parts front (slot_entry p) (slot_entry q) (slot_entry r) (slot_entry s) (mbr_sector_of front (p ∷ q ∷ r ∷ s ∷ [])) =
+    four_parts front (slot_entry p) (slot_entry q) (slot_entry r) (slot_entry s) _ refl len (length-entry_of p) (length-entry_of q) (length-entry_of r) (length-entry_of s) in
     record {
       signature = parts.signature;
       head = parts.at_front;
@@ -85,24 +85,24 @@ sector_reads_back front (p ∷ q ∷ r ∷ s ∷ []) len four each =
     }
 sector_reads_back front (p ∷ q ∷ r ∷ s ∷ t ∷ slots) len four each = absurd (omega arith)
 
--- slots that are kept are sound as they were
-pub kept_sound : (sectors : ℕ) (slots : List Slot) → IsSound sectors slots → IsSound sectors (map kept slots)
+-- slots that are kept_slot are sound as they were
+pub kept_sound : (sectors : ℕ) (slots : List Slot) → AreSound sectors slots → AreSound sectors (map kept_slot slots)
 kept_sound sectors slots sound = record {
-  four = length-map slots kept ∙ sound.four;
+  four = length-map slots kept_slot ∙ sound.four;
   none_bad = λ i lt bad.
-      let before : list_any holds_extended (take i (map kept slots)) ≡ list_any holds_extended (take i slots) =
-      ap (list_any holds_extended) (take-map kept i slots) ∙ any-kept (take i slots) in
-      let here : get_or (map kept slots) i empty_slot ≡ kept (get_or slots i empty_slot) = get_or-map kept slots i empty_slot empty_slot (omega (arith, sound.four)) in
-      let same : is_bad sectors (list_any holds_extended (take i (map kept slots))) (get_or (map kept slots) i empty_slot)
-      ≡ is_bad sectors (list_any holds_extended (take i slots)) (get_or slots i empty_slot) =
-      ap (λ b. is_bad sectors b (get_or (map kept slots) i empty_slot)) before
-      ∙ ap (is_bad sectors (list_any holds_extended (take i slots))) here
+      let before : list_any holds_extended (take i (map kept_slot slots)) ≡ list_any holds_extended (take i slots) =
+      ap (list_any holds_extended) (take-map kept_slot i slots) ∙ any-kept (take i slots) in
+      let here : get_or (map kept_slot slots) i empty_slot ≡ kept_slot (get_or slots i empty_slot) = get_or-map kept_slot slots i empty_slot empty_slot (omega (arith, sound.four)) in
+      let same : is_bad_slot sectors (list_any holds_extended (take i (map kept_slot slots))) (get_or (map kept_slot slots) i empty_slot)
+      ≡ is_bad_slot sectors (list_any holds_extended (take i slots)) (get_or slots i empty_slot) =
+      ap (λ b. is_bad_slot sectors b (get_or (map kept_slot slots) i empty_slot)) before
+      ∙ ap (is_bad_slot sectors (list_any holds_extended (take i slots))) here
       ∙ kept-is_bad sectors (list_any holds_extended (take i slots)) (get_or slots i empty_slot) in
       sound.none_bad i lt (sym same ∙ bad);
 }
 
 -- a sector that reads back as a head and sound slots holds their table
-pub table_read_back : (sectors : ℕ) (front : List ℕ) (slots : List Slot) (bytes : List ℕ) → 0 < sectors → ReadsBack front slots bytes → IsSound sectors slots
+pub table_read_back : (sectors : ℕ) (front : List ℕ) (slots : List Slot) (bytes : List ℕ) → 0 < sectors → ReadsBack front slots bytes → AreSound sectors slots
     → IsSectorTable sectors bytes (table_of front slots)
 table_read_back sectors front slots bytes some back sound = record {
   some = some;
@@ -113,7 +113,7 @@ table_read_back sectors front slots bytes some back sound = record {
 }
 
 -- what is written for sound slots holds their table
-pub table_written : (sectors : ℕ) (front : List ℕ) (slots : List Slot) → 0 < sectors → length front ≡ 446 → IsSound sectors slots
+pub table_written : (sectors : ℕ) (front : List ℕ) (slots : List Slot) → 0 < sectors → length front ≡ 446 → AreSound sectors slots
     → ((i : ℕ) → i < 4 → ((get_or slots i empty_slot).start < 2 ^ 32) × ((get_or slots i empty_slot).count < 2 ^ 32))
     → IsSectorTable sectors (mbr_sector_of front slots) (table_of front slots)
 table_written sectors front slots some len sound fit =
@@ -121,16 +121,16 @@ table_written sectors front slots some len sound fit =
     (sector_reads_back front slots len sound.four (λ i lt. entry_read_back (get_or slots i empty_slot) (fit i lt).0 (fit i lt).1)) sound
 
 -- slots of which each is used or empty are read as they were written
-pub same_slots : (slots : List Slot) → ((i : ℕ) → i < length slots → kept (get_or slots i empty_slot) ≡ get_or slots i empty_slot) → map kept slots ≡ slots
+pub same_slots : (slots : List Slot) → ((i : ℕ) → i < length slots → kept_slot (get_or slots i empty_slot) ≡ get_or slots i empty_slot) → map kept_slot slots ≡ slots
 same_slots [] each = refl
 same_slots (slot ∷ slots) each =
-    let here : kept slot ≡ slot = each 0 (omega arith) in
-    let rest : map kept slots ≡ slots = same_slots slots (λ i lt. each (suc i) (omega arith)) in
+    let here : kept_slot slot ≡ slot = each 0 (omega arith) in
+    let rest : map kept_slot slots ≡ slots = same_slots slots (λ i lt. each (suc i) (omega arith)) in
     cc
 
 -- a used slot of a table lies behind sector 0 and on the disk
-pub used_bounds : (sectors : ℕ) (slots : List Slot) (i : ℕ) → IsSound sectors slots → i < 4 → is_used (get_or slots i empty_slot) ≡ true
-    → (1 ≤ (get_or slots i empty_slot).start) × (end_of (get_or slots i empty_slot) ≤ sectors)
+pub used_bounds : (sectors : ℕ) (slots : List Slot) (i : ℕ) → AreSound sectors slots → i < 4 → is_used (get_or slots i empty_slot) ≡ true
+    → (1 ≤ (get_or slots i empty_slot).start) × (slot_end (get_or slots i empty_slot) ≤ sectors)
 used_bounds sectors slots i sound lt used =
     good_bounds sectors (list_any holds_extended (take i slots)) (get_or slots i empty_slot) used (sound.none_bad i lt)
 
@@ -154,12 +154,12 @@ found_at (slot ∷ slots) extended is =
     ] refl is
 
 -- the extended partition of sound slots lies behind sector 0 and on the disk
-pub found_bounds : (sectors : ℕ) (slots : List Slot) (extended : Slot) → find holds_extended slots ≡ Some extended → IsSound sectors slots
-    → (1 ≤ extended.start) × (end_of extended ≤ sectors)
+pub found_bounds : (sectors : ℕ) (slots : List Slot) (extended : Slot) → find holds_extended slots ≡ Some extended → AreSound sectors slots
+    → (1 ≤ extended.start) × (slot_end extended ≤ sectors)
 found_bounds sectors slots extended is sound =
     let found : FoundAt slots extended = found_at slots extended is in
     let used : is_used extended ≡ true = (and_parts (is_used extended) (is_extended extended) found.holds).0 in
-    let P : Slot → Type 0 = λ s. (1 ≤ s.start) × (end_of s ≤ sectors) in
+    let P : Slot → Type 0 = λ s. (1 ≤ s.start) × (slot_end s ≤ sectors) in
     subst P found.here (used_bounds sectors slots found.place sound (omega (arith, found.inside, sound.four)) (ap is_used found.here ∙ used))
 
 -- a disk whose sector 0 spells a table without an extended partition has that table
@@ -226,7 +226,7 @@ has_extended : (sectors : ℕ) (bytes : List ℕ) (table : Table) (extended : Sl
 has_extended sectors bytes table extended is found = record {
   some = is.some;
   signature = is.signature;
-  sound = subst (IsSound sectors) is.slots is.sound;
+  sound = subst (AreSound sectors) is.slots is.sound;
   found = ap (find holds_extended) (sym is.slots) ∙ found;
 }
 
@@ -241,7 +241,7 @@ logicals_fault sectors image table Device is why = tt
 logicals_fault sectors image table Memory is why = tt
 
 -- one slot is the first bad one
-one_first_bad : (sectors : ℕ) (slots : List Slot) (a b : ℕ) → IsFirstBad sectors slots a → IsFirstBad sectors slots b → a ≡ b
+one_first_bad : (sectors : ℕ) (slots : List Slot) (a b : ℕ) → IsFirstBadSlot sectors slots a → IsFirstBadSlot sectors slots b → a ≡ b
 one_first_bad sectors slots a b a-is b-is =
     elim (cases_lt a b) [
       | inl lt ↦ absurd (b-is.none_before (a - 1) (omega (arith, a-is.counted)) a-is.bad)
@@ -256,7 +256,7 @@ unsigned_only : (sectors : ℕ) (bytes : List ℕ) → 0 < sectors → HasSignat
 unsigned_only sectors bytes some signed (inl none) = omega arith
 unsigned_only sectors bytes some signed (inr unsigned) = unsigned signed
 
-sound_only : (sectors : ℕ) (bytes : List ℕ) (extended : Slot) (number : ℕ) → HasExtended sectors bytes extended → IsFirstBad sectors (slots_of bytes) number → ⊥
+sound_only : (sectors : ℕ) (bytes : List ℕ) (extended : Slot) (number : ℕ) → HasExtended sectors bytes extended → IsFirstBadSlot sectors (slots_of bytes) number → ⊥
 sound_only sectors bytes extended number has first = has.sound.none_bad (number - 1) (omega (arith, first.counted)) first.bad
 
 -- a table has one extended partition

@@ -12,7 +12,7 @@ use Rattle.mbr_table.specs.declared.chain.Record.{Record}
 use Rattle.mbr_table.specs.declared.chain.Walk.{Walk}
 use Rattle.mbr_table.specs.Slot.{is_used}
 use Rattle.mbr_table.specs.Chain.{own_of, own_logical, logical_of, next_of, due_at, logicals_at, IsGoodRecord, IsBeginning, LeadsTo, IsLogicalIn, ComesToBad, AreChained}
-use Rattle.mbr_table.specs.inside.Walk.{IsNew, IsPlaceFault, IsFound, IsRecordFault, IsWalk, IsWalkTo, IsWithin, IsChainFault}
+use Rattle.mbr_table.specs.inside.Walk.{IsNew, IsPlaceFault, IsFound, IsRecordFault, IsWalk, IsWalkTo, IsWalkWithin, IsChainFault}
 use Rattle.mbr_table.proofs.Chains.{one_more, logicals_more}
 
 -- a walk leads to the place that is due
@@ -71,9 +71,9 @@ good_logical extended at bytes good =
     ] refl
 
 pub within_more : (extended : Slot) (old new : Walk) (at place : ℕ) (bytes : List ℕ) (found : Record)
-    → IsWithin extended old → IsNew extended old.places.items at → IsFound extended place bytes found
+    → IsWalkWithin extended old → IsNew extended old.places.items at → IsFound extended place bytes found
     → new.places.items ≡ old.places.items ++ place ∷ [] → new.logicals.items ≡ old.logicals.items ++ cons_option found.logical []
-    → IsWithin extended new
+    → IsWalkWithin extended new
 within_more extended old new at place bytes found within is_new says places-are logicals-are =
     let one : AreFew extended (cons_option found.logical []) =
     subst (λ (o : Option Logical). AreFew extended (cons_option o [])) (sym says.logical) (good_logical extended place bytes says.good) in

@@ -6,7 +6,7 @@ use Rattle.disk_base.specs.Image.{bytes_at, sector}
 use Rattle.mbr_table.specs.declared.slot.Slot.{Slot}
 use Rattle.mbr_table.specs.declared.slot.Logical.{Logical}
 use Rattle.mbr_table.specs.Signature.{HasSignature}
-use Rattle.mbr_table.specs.Slot.{slot_of, is_used, end_of}
+use Rattle.mbr_table.specs.Slot.{slot_of, is_used, slot_end}
 
 -- a record's own slot, whose start is counted from the record
 unfoldable pub own_of : List ℕ → Slot
@@ -31,17 +31,17 @@ abbrev pub logical_of : ℕ → List ℕ → Option Logical
 logical_of at bytes = own_logical at (own_of bytes)
 
 -- a place in the extended partition
-abbrev pub IsInside : Slot → ℕ → Type 0
-IsInside extended at = (extended.start ≤ at) × (at < end_of extended)
+abbrev pub IsInExtended : Slot → ℕ → Type 0
+IsInExtended extended at = (extended.start ≤ at) × (at < slot_end extended)
 
 -- the own slot of a record starts behind the record and ends in the extended partition
 pub record LiesBehind (extended : Slot) (at : ℕ) (own : Slot) : Type 0 where
   pub behind : 0 < own.start
-  pub inside : at + end_of own ≤ end_of extended
+  pub inside : at + slot_end own ≤ slot_end extended
 
 -- what the record at a place has to be
 pub record IsGoodRecord (extended : Slot) (at : ℕ) (bytes : List ℕ) : Type 0 where
-  pub inside : IsInside extended at
+  pub inside : IsInExtended extended at
   pub signature : HasSignature bytes
   pub own : IsTrue (is_used (own_of bytes)) → LiesBehind extended at (own_of bytes)
 
@@ -75,13 +75,13 @@ pub record LeadsTo (image : List ℕ) (extended : Slot) (places : List ℕ) (at 
 -- the record that is due is bad: it lies outside, it came before, or it is none that a chain may have
 abbrev pub IsBadNext : List ℕ → Slot → List ℕ → ℕ → Type 0
 IsBadNext image extended places at =
-    (IsInside extended at → ⊥) ⊎ Contains places at
+    (IsInExtended extended at → ⊥) ⊎ Contains places at
     ⊎ ((length places < 60) × (IsGoodRecord extended at (sector image at) → ⊥))
 
 -- the record that is due would be the 61st
 pub record IsOneTooMany (extended : Slot) (places : List ℕ) (at : ℕ) : Type 0 where
   pub sixty : length places ≡ 60
-  pub inside : IsInside extended at
+  pub inside : IsInExtended extended at
   pub new : Contains places at → ⊥
 
 -- the chain comes to a bad record at that place, or to a 61st
@@ -102,7 +102,7 @@ pub record IsLogicalIn (extended : Slot) (logical : Logical) : Type 0 where
   pub used : IsTrue (is_used logical.slot)
   pub record_inside : extended.start ≤ logical.ebr
   pub behind_record : logical.ebr < logical.slot.start
-  pub ends_inside : end_of logical.slot ≤ end_of extended
+  pub ends_inside : slot_end logical.slot ≤ slot_end extended
 
 -- what is true of the logical partitions of every chain
 pub record AreLogicalsIn (extended : Slot) (logicals : List Logical) : Type 0 where

@@ -9,7 +9,7 @@ use Rattle.mbr_table.specs.declared.sector.SectorTable.{SectorTable}
 use Rattle.mbr_table.specs.declared.fault.MbrFault.{MbrFault}
 use Rattle.mbr_table.specs.declared.fault.MbrFault.TheVariants.{NoSignature, Entry, Chain, TooMany, Device, Memory}
 use Rattle.mbr_table.specs.Signature.{HasSignature}
-use Rattle.mbr_table.specs.Slot.{slot_of, stands_in, holds_extended, kept, entry_of, IsBadEntry}
+use Rattle.mbr_table.specs.Slot.{slot_of, stands_in, holds_extended, kept_slot, slot_entry, IsBadEntry}
 use Rattle.mbr_table.specs.Chain.{AreChained, AreLogicalsIn, ComesToBad, ComesTooFar}
 
 -- a table as it was read
@@ -29,12 +29,12 @@ abbrev pub IsProtective : List ℕ → Type 0
 IsProtective bytes = HasSignature bytes × IsTrue (list_any stands_in (slots_of bytes))
 
 -- four slots, of which none is bad on a disk of that many sectors
-pub record IsSound (sectors : ℕ) (slots : List Slot) : Type 0 where
+pub record AreSound (sectors : ℕ) (slots : List Slot) : Type 0 where
   pub four : length slots ≡ 4
   pub none_bad : (i : ℕ) → i < 4 → IsBadEntry sectors slots i → ⊥
 
 -- the first bad slot has that number, counted from 1
-pub record IsFirstBad (sectors : ℕ) (slots : List Slot) (number : ℕ) : Type 0 where
+pub record IsFirstBadSlot (sectors : ℕ) (slots : List Slot) (number : ℕ) : Type 0 where
   pub counted : (1 ≤ number) × (number ≤ 4)
   pub bad : IsBadEntry sectors slots (number - 1)
   pub none_before : (i : ℕ) → i + 1 < number → IsBadEntry sectors slots i → ⊥
@@ -45,7 +45,7 @@ pub record IsSectorTable (sectors : ℕ) (bytes : List ℕ) (table : Table) : Ty
   pub signature : HasSignature bytes
   pub head : table.head ≡ bytes_at bytes 0 446
   pub slots : table.slots ≡ slots_of bytes
-  pub sound : IsSound sectors table.slots
+  pub sound : AreSound sectors table.slots
 
 -- the table of what sector 0 says, of a disk without logical partitions
 abbrev pub plain_table : SectorTable → Table
@@ -70,14 +70,14 @@ pub record IsMbrTable (sectors : ℕ) (image : List ℕ) (table : Table) : Type 
 pub record HasExtended (sectors : ℕ) (bytes : List ℕ) (extended : Slot) : Type 0 where
   pub some : 0 < sectors
   pub signature : HasSignature bytes
-  pub sound : IsSound sectors (slots_of bytes)
+  pub sound : AreSound sectors (slots_of bytes)
   pub found : find holds_extended (slots_of bytes) ≡ Some extended
 
 -- why sector 0 of a disk of that many sectors spells no table
 abbrev pub IsSectorFault : ℕ → List ℕ → MbrFault → Type 0
 IsSectorFault sectors bytes NoSignature = (sectors ≡ 0) ⊎ (HasSignature bytes → ⊥)
 IsSectorFault sectors bytes (Entry number) =
-    (0 < sectors) × HasSignature bytes × IsFirstBad sectors (slots_of bytes) number
+    (0 < sectors) × HasSignature bytes × IsFirstBadSlot sectors (slots_of bytes) number
 IsSectorFault sectors bytes (Chain at) = ⊥
 IsSectorFault sectors bytes (TooMany at) = ⊥
 IsSectorFault sectors bytes Device = ⊥
@@ -95,8 +95,8 @@ HasMbrFault sectors image Device = Unit {0}
 HasMbrFault sectors image Memory = Unit {0}
 
 -- a disk has at most one table, and where it has one there is no reason against it
-abbrev pub OneTable : Type 0
-OneTable =
+abbrev pub OneMbrTable : Type 0
+OneMbrTable =
     (sectors : ℕ) (image : List ℕ) (one : Table) → IsMbrTable sectors image one
     → ((other : Table) → IsMbrTable sectors image other → other ≡ one)
     × ((fault : MbrFault) → HasMbrFault sectors image fault → (fault ≡ Device) ⊎ (fault ≡ Memory))
@@ -118,14 +118,14 @@ OneFault =
 
 -- the sector that is written for a head and slots
 abbrev pub mbr_sector_of : List ℕ → List Slot → List ℕ
-mbr_sector_of head slots = head ++ flat_map entry_of slots ++ 0x55 ∷ 0xAA ∷ []
+mbr_sector_of head slots = head ++ flat_map slot_entry slots ++ 0x55 ∷ 0xAA ∷ []
 
 -- the table that is read of a head and slots that were written
 abbrev pub table_of : List ℕ → List Slot → Table
-table_of head slots = record { head = head; slots = map kept slots; logicals = [] }
+table_of head slots = record { head = head; slots = map kept_slot slots; logicals = [] }
 
 -- a sector that is read as that head and the used ones of these slots
 pub record ReadsBack (front : List ℕ) (written : List Slot) (bytes : List ℕ) : Type 0 where
   pub signature : HasSignature bytes
   pub head : bytes_at bytes 0 446 ≡ front
-  pub slots : slots_of bytes ≡ map kept written
+  pub slots : slots_of bytes ≡ map kept_slot written

@@ -4,7 +4,7 @@ use Rattle.std.specs.List.{AllPairs, find}
 use Rattle.disk_base.specs.Image.{sector}
 use Rattle.mbr_table.specs.declared.slot.Slot.{Slot}
 use Rattle.mbr_table.specs.declared.slot.Logical.{Logical}
-use Rattle.mbr_table.specs.Slot.{entry_bytes, entry_of, end_of, holds_extended}
+use Rattle.mbr_table.specs.Slot.{entry_bytes, slot_entry, slot_end, holds_extended}
 use Rattle.mbr_table.specs.Chain.{IsChain, IsLogicalIn, logicals_at}
 use Rattle.mbr_table.specs.Mbr.{Table, IsSectorTable, IsMbrTable}
 
@@ -19,7 +19,7 @@ link_entry_of (Some next) = entry_bytes (link_slot next)
 
 -- a record's sector, for its own slot, whose start is counted from the record, and the next record
 unfoldable pub ebr_sector_of : Slot → Option (ℕ × ℕ) → List ℕ
-ebr_sector_of own next = replicate 446 0 ++ entry_of own ++ link_entry_of next ++ replicate 32 0 ++ 0x55 ∷ 0xAA ∷ []
+ebr_sector_of own next = replicate 446 0 ++ slot_entry own ++ link_entry_of next ++ replicate 32 0 ++ 0x55 ∷ 0xAA ∷ []
 
 -- a logical partition's slot in its record
 abbrev pub own_slot : Logical → Slot
@@ -28,7 +28,7 @@ own_slot logical = record logical.slot { start = logical.slot.start - logical.eb
 -- where its record stands behind the extended partition's start `base`, and how many sectors there are from there to
 -- its end
 abbrev pub link_to : ℕ → Logical → ℕ × ℕ
-link_to base logical = (logical.ebr - base, end_of logical.slot - logical.ebr)
+link_to base logical = (logical.ebr - base, slot_end logical.slot - logical.ebr)
 
 -- what the record of the logical partition at index `i` says of the next record
 abbrev pub link_after : ℕ → List Logical → ℕ → Option (ℕ × ℕ)

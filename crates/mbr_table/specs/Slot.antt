@@ -34,23 +34,23 @@ abbrev pub holds_extended : Slot → Bool
 holds_extended slot = is_used slot && is_extended slot
 
 -- the first sector behind it
-abbrev pub end_of : Slot → ℕ
-end_of slot = slot.start + slot.count
+abbrev pub slot_end : Slot → ℕ
+slot_end slot = slot.start + slot.count
 
 -- it may not stand in the table of a disk of that many sectors, where `extended` says that a slot before it
 -- holds an extended partition: it is used, and it starts at sector 0, ends past the disk, or is extended too
-abbrev pub is_bad : ℕ → Bool → Slot → Bool
-is_bad sectors extended slot =
-    is_used slot && (slot.start == 0 || nat_lt sectors (end_of slot) || (is_extended slot && extended))
+abbrev pub is_bad_slot : ℕ → Bool → Slot → Bool
+is_bad_slot sectors extended slot =
+    is_used slot && (slot.start == 0 || nat_lt sectors (slot_end slot) || (is_extended slot && extended))
 
 -- slot `i`, counted from 0, may not stand in the table
 abbrev pub IsBadEntry : ℕ → List Slot → ℕ → Type 0
 IsBadEntry sectors slots i =
-    IsTrue (is_bad sectors (list_any holds_extended (take i slots)) (slice_index_or slots i empty_slot))
+    IsTrue (is_bad_slot sectors (list_any holds_extended (take i slots)) (slice_index_or slots i empty_slot))
 
 -- what is read of a slot that was written: a used one as it is, an unused one empty
-abbrev pub kept : Slot → Slot
-kept slot = if is_used slot then slot else empty_slot
+abbrev pub kept_slot : Slot → Slot
+kept_slot slot = if is_used slot then slot else empty_slot
 
 -- an entry that says what a slot says; FE FF FF in place of an address by cylinder, head and sector says that the
 -- numbers of sectors alone count
@@ -60,5 +60,5 @@ entry_bytes slot =
     ++ little_bytes 4 slot.count
 
 -- the entry that is written for a slot
-abbrev pub entry_of : Slot → List ℕ
-entry_of slot = if is_used slot then entry_bytes slot else replicate 16 0
+abbrev pub slot_entry : Slot → List ℕ
+slot_entry slot = if is_used slot then entry_bytes slot else replicate 16 0

@@ -3,9 +3,9 @@ ghost use Rattle.std.specs.Prelude.{◌≡◌, ◌+◌, ◌^◌, ◌<◌, ◌≤
 ghost use Rattle.std.specs.List.{cons_option};
 ghost use Rattle.disk_base.specs.Faults.{Rose};
 ghost use Rattle.disk_base.specs.Image.{sector};
-ghost use Rattle.mbr_table.specs.Slot.{is_used, end_of};
-ghost use Rattle.mbr_table.specs.Chain.{own_of, own_logical, next_of, IsInside, LiesBehind, IsGoodRecord, AreLogicalsIn, AreChained, OneChain};
-ghost use Rattle.mbr_table.specs.inside.Walk.{IsNew, IsPlaceFault, IsJudged, IsReadRecord, IsRecordFault, IsWithin, WalksOn, WalkEnds, IsChainFault};
+ghost use Rattle.mbr_table.specs.Slot.{is_used, slot_end};
+ghost use Rattle.mbr_table.specs.Chain.{own_of, own_logical, next_of, IsInExtended, LiesBehind, IsGoodRecord, AreLogicalsIn, AreChained, OneChain};
+ghost use Rattle.mbr_table.specs.inside.Walk.{IsNew, IsPlaceFault, IsRecordFound, IsReadRecord, IsRecordFault, IsWalkWithin, WalksOn, WalkEnds, IsChainFault};
 
 use crate::fault::MbrFault;
 use crate::sector::has_signature;
@@ -77,9 +77,9 @@ fn next_in(base: u32, sector: &[u8; SECTOR]) -> Option<u64>
 
 /// What the record at `at` says, whose bytes are `sector`, if it is a good one.
 pub(crate) fn judge_record(extended: &Slot, at: u32, sector: &[u8; SECTOR]) -> Option<Record>
-    requires inside { IsInside extended.now at }
-    requires addressed { end_of extended.now ≤ 2 ^ 31 }
-    ensures { IsJudged extended.now at sector.now result }
+    requires inside { IsInExtended extended.now at }
+    requires addressed { slot_end extended.now ≤ 2 ^ 31 }
+    ensures { IsRecordFound extended.now at sector.now result }
 {
     if !has_signature(sector) {
         return None;
@@ -97,7 +97,7 @@ pub(crate) fn judge_record(extended: &Slot, at: u32, sector: &[u8; SECTOR]) -> O
 /// The place of a record that is due at `at`, if it may be read: it lies in the extended partition, it
 /// didn't come before, and it is no 61st.
 fn judge_place(extended: &Slot, places: &[u32], at: u64) -> Result<u32, MbrFault>
-    requires addressed { end_of extended.now ≤ 2 ^ 31 }
+    requires addressed { slot_end extended.now ≤ 2 ^ 31 }
     requires few { length places.now ≤ 60 }
     ensures place { IfOk result (λ place. (place ≡ at) × IsNew extended.now places.now at) }
     ensures fault { IfErr result (λ fault. IsPlaceFault extended.now places.now at fault) }
@@ -117,8 +117,8 @@ fn judge_place(extended: &Slot, places: &[u32], at: u64) -> Result<u32, MbrFault
 
 /// The record at `at`, read of a disk.
 fn read_record<B: Blocks>(disk: &mut B, extended: &Slot, at: u32) -> Result<Record, MbrFault>
-    requires inside { IsInside extended.now at }
-    requires on_disk { end_of extended.now ≤ B.size disk.old }
+    requires inside { IsInExtended extended.now at }
+    requires on_disk { slot_end extended.now ≤ B.size disk.old }
     requires addressed { B.size disk.old ≤ 2 ^ 31 }
     ensures read { B.only_read disk.old disk.new }
     ensures found { IfOk result (λ found. IsReadRecord B.tells (B.image disk.old) extended.now at found) }
@@ -155,11 +155,11 @@ impl Walk {
 
 /// Reads the record that is due at `at` and adds it.
 fn step<B: Blocks>(disk: &mut B, extended: &Slot, walk: &mut Walk, at: u64) -> Result<(), MbrFault>
-    requires on_disk { end_of extended.now ≤ B.size disk.old }
+    requires on_disk { slot_end extended.now ≤ B.size disk.old }
     requires addressed { B.size disk.old ≤ 2 ^ 31 }
-    requires within { IsWithin extended.now walk.old }
+    requires within { IsWalkWithin extended.now walk.old }
     ensures read { B.only_read disk.old disk.new }
-    ensures within { OnOk result (IsWithin extended.now walk.new) }
+    ensures within { OnOk result (IsWalkWithin extended.now walk.new) }
     ensures more { OnOk result (length walk.new.places.items ≡ length walk.old.places.items + 1) }
     ensures walked { IsTrue B.tells → OnOk result (WalksOn (B.image disk.old) extended.now walk.old at walk.new) }
     ensures fault { IsTrue B.tells → IfErr result (λ fault. WalkEnds (B.image disk.old) extended.now walk.old at fault) }
@@ -177,7 +177,7 @@ pub(crate) fn read_chain<B: Blocks>(
     disk: &mut B,
     extended: &Slot,
 ) -> Result<Vec<Logical>, MbrFault>
-    requires on_disk { end_of extended.now ≤ B.size disk.old }
+    requires on_disk { slot_end extended.now ≤ B.size disk.old }
     requires addressed { B.size disk.old ≤ 2 ^ 31 }
     ensures read { B.only_read disk.old disk.new }
     ensures within { IfOk result (λ all. AreLogicalsIn extended.now all.items) }

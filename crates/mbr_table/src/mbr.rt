@@ -1,7 +1,7 @@
 //! Reading the table.
 ghost use Rattle.std.specs.Prelude.{◌≡◌, ◌^◌, ◌<◌, ◌≤◌, IsTrue, OnOk, IfOk, IfErr, IsErrOf};
 ghost use Rattle.disk_base.specs.Faults.{Rose};
-ghost use Rattle.mbr_table.specs.Mbr.{IsSound, IsMbrTable, HasMbrFault, AreWithin, AreLogicals, OneTable, OneFault};
+ghost use Rattle.mbr_table.specs.Mbr.{AreSound, IsMbrTable, HasMbrFault, AreWithin, AreLogicals, OneMbrTable, OneFault};
 ghost use Rattle.mbr_table.specs.inside.Walk.{IsReadSector, IsLogicalsFault};
 
 use crate::chain::read_chain;
@@ -74,7 +74,7 @@ fn read_logicals<B: Blocks>(
     disk: &mut B,
     slots: &[Slot; 4],
 ) -> Result<Vec<Logical>, MbrFault>
-    requires sound { IsSound (B.size disk.old) slots.now }
+    requires sound { AreSound (B.size disk.old) slots.now }
     requires addressed { B.size disk.old ≤ 2 ^ 31 }
     ensures read { B.only_read disk.old disk.new }
     ensures within { IfOk result (λ all. AreWithin slots.now all.items) }
@@ -95,7 +95,7 @@ fn read_table<B: Blocks>(alloc: Global, disk: &mut B) -> Result<Mbr, MbrFault>
     ensures read { B.only_read disk.old disk.new }
     ensures table { IsTrue B.tells → IfOk result (λ table. IsMbrTable (B.size disk.old) (B.image disk.old) table) }
     ensures fault { IsTrue B.tells → IfErr result (λ fault. HasMbrFault (B.size disk.old) (B.image disk.old) fault) }
-    ensures sound { IfOk result (λ table. IsSound (B.size disk.old) table.slots) }
+    ensures sound { IfOk result (λ table. AreSound (B.size disk.old) table.slots) }
     ensures within { IfOk result (λ table. AreWithin table.slots table.logicals) }
     ensures device { IsErrOf result MbrFault.Device → Rose (B.faults disk.old) (B.faults disk.new) }
 {
@@ -117,7 +117,7 @@ pub fn read_mbr<B: Blocks>(alloc: Global, disk: &mut B) -> Result<Mbr, MbrFault>
     ensures table { IsTrue B.tells → IfOk result (λ table. IsMbrTable (B.size disk.old) (B.image disk.old) table) }
     ensures fault { IsTrue B.tells → IfErr result (λ fault. HasMbrFault (B.size disk.old) (B.image disk.old) fault) }
     ensures some { OnOk result (0 < B.size disk.old) }
-    ensures sound { IfOk result (λ table. IsSound (B.size disk.old) table.slots) }
+    ensures sound { IfOk result (λ table. AreSound (B.size disk.old) table.slots) }
     ensures within { IfOk result (λ table. AreWithin table.slots table.logicals) }
     ensures empty { B.size disk.old ≡ 0 → IsErrOf result MbrFault.NoSignature }
     ensures unread { B.size disk.old ≡ 0 → disk.new ≡ disk.old }
@@ -131,7 +131,7 @@ pub fn read_mbr<B: Blocks>(alloc: Global, disk: &mut B) -> Result<Mbr, MbrFault>
 
 /// The law that a disk has at most one table, and no reason against it where it has one. A call does nothing.
 pub fn one_table()
-    ensures { OneTable }
+    ensures { OneMbrTable }
 {}
 
 /// The law that at most one reason stands against a disk, beside a device's fault and want of memory. A call

@@ -3,7 +3,7 @@ ghost use Rattle.std.specs.Prelude.{◌≡◌, [], IsTrue, ◌↔◌, IfOk, IfEr
 ghost use Rattle.std.specs.List.{list_any, find};
 ghost use Rattle.mbr_table.specs.Signature.{HasSignature};
 ghost use Rattle.mbr_table.specs.Slot.{stands_in, holds_extended};
-ghost use Rattle.mbr_table.specs.Mbr.{IsProtective, IsSound, IsFirstBad, IsSectorTable, plain_table, IsSectorFault, slots_of};
+ghost use Rattle.mbr_table.specs.Mbr.{IsProtective, AreSound, IsFirstBadSlot, IsSectorTable, plain_table, IsSectorFault, slots_of};
 
 use crate::fault::MbrFault;
 use crate::slot::{Slot, slot_in};
@@ -41,7 +41,7 @@ fn slots_in(sector: &[u8; SECTOR]) -> [Slot; 4]
 
 /// The number, counted from 1, of the first bad slot.
 fn first_bad(sectors: u64, slots: &[Slot; 4]) -> Option<u32>
-    ensures { MatchOption result (IsSound sectors slots.now) (λ number. IsFirstBad sectors slots.now number) }
+    ensures { MatchOption result (AreSound sectors slots.now) (λ number. IsFirstBadSlot sectors slots.now number) }
 {
     let mut extended = false;
     for (i, slot) in slots.iter().enumerate() {

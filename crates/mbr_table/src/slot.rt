@@ -1,6 +1,6 @@
 //! The slots of a table.
 ghost use Rattle.std.specs.Prelude.{◌≡◌, ◌≤◌, length};
-ghost use Rattle.mbr_table.specs.Slot.{slot_of, is_used, is_extended, holds_extended, end_of, is_bad};
+ghost use Rattle.mbr_table.specs.Slot.{slot_of, is_used, is_extended, holds_extended, slot_end, is_bad_slot};
 
 use byteorder::{ByteOrder, LittleEndian};
 
@@ -39,7 +39,7 @@ impl Slot {
 
     /// The first sector behind it.
     pub fn end(&self) -> u64
-        ensures { result ≡ end_of self.now }
+        ensures { result ≡ slot_end self.now }
     {
         let start = self.start;
         let count = self.count;
@@ -56,7 +56,7 @@ impl Slot {
     /// Whether it may not stand in the table of a disk of that many sectors; `extended` says whether a
     /// slot before it holds an extended partition.
     pub(crate) fn is_bad(&self, sectors: u64, extended: bool) -> bool
-        ensures { result ≡ is_bad sectors extended self.now }
+        ensures { result ≡ is_bad_slot sectors extended self.now }
     {
         self.is_used()
             && (self.start == 0 || self.end() > sectors || (self.is_extended() && extended))

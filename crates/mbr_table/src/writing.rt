@@ -1,10 +1,10 @@
 //! Writing the table and the records of a chain.
 ghost use Rattle.std.specs.Prelude.{◌≡◌, ℕ, ◌+◌, ◌<◌, ◌≤◌, ◌++◌, length, take, option_map, MatchOption};
 ghost use Rattle.mbr_table.specs.Signature.{HasSignature};
-ghost use Rattle.mbr_table.specs.Slot.{slot_of, empty_slot, kept, entry_bytes, entry_of};
+ghost use Rattle.mbr_table.specs.Slot.{slot_of, empty_slot, kept_slot, entry_bytes, slot_entry};
 ghost use Rattle.mbr_table.specs.Chain.{own_of, next_of};
 ghost use Rattle.mbr_table.specs.Record.{link_slot, link_entry_of, ebr_sector_of, ChainReadsBack, TableReadsBack};
-ghost use Rattle.mbr_table.specs.Mbr.{IsSectorTable, IsSound, ReadsBack, mbr_sector_of, table_of};
+ghost use Rattle.mbr_table.specs.Mbr.{IsSectorTable, AreSound, ReadsBack, mbr_sector_of, table_of};
 
 use crate::slot::Slot;
 use disk_base::put;
@@ -37,8 +37,8 @@ fn spelled(slot: &Slot) -> [u8; 16]
 
 /// The entry of a slot.
 fn entry(slot: &Slot) -> [u8; 16]
-    ensures bytes { result ≡ entry_of slot.now }
-    ensures read_back { slot_of result ≡ kept slot.now }
+    ensures bytes { result ≡ slot_entry slot.now }
+    ensures read_back { slot_of result ≡ kept_slot slot.now }
 {
     if !slot.is_used() {
         return [0; 16];
@@ -67,7 +67,7 @@ fn link_entry(next: Option<(u32, u32)>) -> [u8; 16]
 pub fn mbr_sector(head: &[u8; 446], slots: &[Slot; 4], out: &mut [u8; 512])
     ensures bytes { out.new ≡ mbr_sector_of head.now slots.now }
     ensures read_back { ReadsBack head.now slots.now out.new }
-    ensures table { (sectors : ℕ) → 0 < sectors → IsSound sectors slots.now → IsSectorTable sectors out.new (table_of head.now slots.now) }
+    ensures table { (sectors : ℕ) → 0 < sectors → AreSound sectors slots.now → IsSectorTable sectors out.new (table_of head.now slots.now) }
 {
     put(out, 0, head);
     for (i, slot) in slots.iter().enumerate() {
@@ -82,7 +82,7 @@ pub fn mbr_sector(head: &[u8; 446], slots: &[Slot; 4], out: &mut [u8; 512])
 /// read as them, but that an unused slot is read as an empty one.
 pub fn ebr_sector(own: &Slot, next: Option<(u32, u32)>, out: &mut [u8; 512])
     ensures bytes { out.new ≡ ebr_sector_of own.now next }
-    ensures own { own_of out.new ≡ kept own.now }
+    ensures own { own_of out.new ≡ kept_slot own.now }
     ensures next { (base : ℕ) → next_of base out.new ≡ option_map (λ link. base + link.0) next }
     ensures signature { HasSignature out.new }
 {

@@ -8,14 +8,14 @@ use Rattle.layout_plan.specs.declared.part.Part.{Part}
 use Rattle.layout_plan.specs.Plans.{IsPlan, Plan}
 use Rattle.layout_plan.proofs.Unique.{only_memory}
 use Rattle.mbr_table.specs.declared.slot.Slot.{Slot}
-use Rattle.mbr_table.specs.Mbr.{IsFirstBad, Table, slots_of}
+use Rattle.mbr_table.specs.Mbr.{IsFirstBadSlot, Table, slots_of}
 use Rattle.mbr_table.specs.Signature.{HasSignature}
 use Rattle.mbr_table.specs.Slot.{IsBadEntry}
 use Rattle.resize_core.specs.declared.refusal.MbrRefused.TheVariants.{NoPlan as Refused}
 use Rattle.resize_core.specs.Parts.{IsOverlap, LieApart, parts_of}
 use Rattle.resize_core.specs.Targets.{HasNoExtended, HasNoPlanFor as HasNoPlanOf, plain_layout}
 use Rattle.run_end.specs.declared.end.Refusal.{Refusal}
-use Rattle.run_end.specs.declared.end.Refusal.TheVariants.{NotYet, Source, Plan as Unplanned, Memory}
+use Rattle.run_end.specs.declared.end.Refusal.TheVariants.{Usage, NotYet, Source, Plan as Unplanned, Memory}
 use Rattle.run_end.specs.declared.end.SourceFault.{SourceFault}
 use Rattle.run_end.specs.declared.end.SourceFault.TheVariants.{TooLarge, NoSignature, Entry, Overlap}
 use Rattle.resize_core.specs.Copying.{HasNoPlanFor, HasWork, IsNoSource, IsOwnSector, IsRuled, IsServedTable, IsSmall, IsUnserved, copy_of}
@@ -100,7 +100,7 @@ source_stops source target (Entry number) none = record {
   passed = ((none.0, none.2.0, none.2.1), none.1);
   ends = λ has.
       let own : IsOwnSector source has.0 = has.1 in
-      let first : IsFirstBad (sectors_of source) (slots_of (sector source 0)) number = none.2.2 in
+      let first : IsFirstBadSlot (sectors_of source) (slots_of (sector source 0)) number = none.2.2 in
       let from_one : 1 ≤ number = first.counted.0 in
       let to_four : number ≤ 4 = first.counted.1 in
       let Bad : List Slot → Type 0 = λ slots. IsBadEntry (sectors_of source) slots (number - 1) in
@@ -151,6 +151,7 @@ stops source target source_name target_name None has = record { stage = 7; passe
 stops source target source_name target_name (Some NotYet) is = unserved_stops source target is
 stops source target source_name target_name (Some (Source fault)) is = source_stops source target fault is
 stops source target source_name target_name (Some (Unplanned fault)) is = plan_stops source target fault is
+stops source target source_name target_name (Some (Usage usage)) is = absurd is
 stops source target source_name target_name (Some Memory) is = absurd is
 
 pub copy_is_lawful : (source_name target_name source target : List ℕ) → IsLawful (copy_of source_name target_name source target)

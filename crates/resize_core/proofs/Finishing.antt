@@ -12,7 +12,8 @@ use Rattle.run_copy.specs.declared.transfer.Transfer.{Transfer}
 use Rattle.run_copy.specs.Copies.{due, is_left_out, IsCopied, AreCopied, OnlyIn, OnlyWithin}
 use Rattle.resize_core.specs.inside.Phases.{OldOrWith, KeepsFirst, IsFilled}
 use Rattle.resize_core.specs.Finished.{IsCarriable, HasNoTable, LeavesNoTable, boot_transfer}
-use Rattle.resize_core.specs.Ready.{Work, IsDone, IsAtGate, CanBeDone}
+use Rattle.resize_core.specs.Ready.{Work, IsDone, IsAtGate}
+use Rattle.resize_core.specs.inside.Carrying.{CanBeDone}
 use Rattle.run_copy.proofs.Copies.{begun_outside}
 
 pub zeros_long : length {A = ℕ} (replicate 512 0) ≡ 512

@@ -11,16 +11,17 @@ use Rattle.layout_plan.specs.declared.part.Fate.TheVariants.{Kept}
 use Rattle.layout_plan.specs.declared.part.Kind.TheVariants.{Mbr}
 use Rattle.layout_plan.specs.declared.part.Role.{Role}
 use Rattle.layout_plan.specs.declared.part.Role.TheVariants.{Extended, Logical}
-use Rattle.layout_plan.specs.Plans.{Plan, IsInside, Apart, KeepApart, KeepApartAs, first_of, role_of}
+use Rattle.layout_plan.specs.Plans.{Plan, IsPlacedInside, Apart, KeepApart, KeepApartAs, first_of, role_of}
 use Rattle.layout_plan.specs.Tables.{first_number}
 use Rattle.mbr_table.specs.declared.slot.Slot.{Slot}
-use Rattle.mbr_table.specs.Slot.{is_used, empty_slot, end_of}
+use Rattle.mbr_table.specs.Slot.{is_used, empty_slot, slot_end}
 use Rattle.mbr_table.proofs.Tables.{used_bounds}
 use Rattle.run_copy.specs.declared.transfer.Transfer.{Transfer}
 use Rattle.resize_core.specs.Finished.{IsCarriable}
 use Rattle.resize_core.specs.Parts.{parts_of}
 use Rattle.resize_core.specs.Placing.{IsPlacing}
-use Rattle.resize_core.specs.Targets.{IsNamed, source_slot, transfer_of, transfers_of, boot_end, most_boot}
+use Rattle.resize_core.specs.Targets.{source_slot, transfer_of, transfers_of, boot_end, most_boot}
+use Rattle.resize_core.specs.inside.Naming.{IsNamed}
 use Rattle.run_copy.specs.Copies.{IsBetween, WriteApart}
 use Rattle.resize_core.proofs.PartsLemmas.{IsPartFrom, not_extended, parts_each}
 
@@ -30,7 +31,7 @@ pub record IsFromSlot (source_sectors : ℕ) (slots : List Slot) (placed : Place
   pub to_four : placed.from ≤ 4
   pub used : is_used (source_slot slots placed) ≡ true
   pub behind_table : 1 ≤ (source_slot slots placed).start
-  pub inside : end_of (source_slot slots placed) ≤ source_sectors
+  pub inside : slot_end (source_slot slots placed) ≤ source_sectors
   pub same_count : placed.count ≡ (source_slot slots placed).count
 
 -- the least of a number and those of a list
@@ -91,7 +92,7 @@ module _ (source_sectors target_sectors : ℕ) (slots : List Slot) (plan : Plan)
       let same : source_slot slots one ≡ slice_index_or slots p.place empty_slot = ap (λ i. slice_index_or slots i empty_slot) place in
       let Used : Slot → Type 0 = λ slot. is_used slot ≡ true in
       let Behind : Slot → Type 0 = λ slot. 1 ≤ slot.start in
-      let Inside : Slot → Type 0 = λ slot. end_of slot ≤ source_sectors in
+      let Inside : Slot → Type 0 = λ slot. slot_end slot ≤ source_sectors in
       record {
         from_one = omega arith;
         to_four = omega (arith, p.within);
@@ -120,7 +121,7 @@ module _ (source_sectors target_sectors : ℕ) (slots : List Slot) (plan : Plan)
       let inside = placing.inside k d h in
       record { from_one = from.from_one; to_four = from.to_four; end_named = omega (arith, inside.before_limit, placing.limit, few_target) }
 
-  between : (placed : Placed) → IsFromSlot source_sectors slots placed → IsInside Mbr plan.limit placed → IsBetween source_sectors target_sectors (transfer_of slots placed)
+  between : (placed : Placed) → IsFromSlot source_sectors slots placed → IsPlacedInside Mbr plan.limit placed → IsBetween source_sectors target_sectors (transfer_of slots placed)
   between placed from inside = record {
     few_source = placing.few_source;
     few_target = few_target;

@@ -11,13 +11,13 @@ use Rattle.layout_plan.specs.declared.part.Part.{Part}
 use Rattle.layout_plan.specs.declared.part.Role.TheVariants.{Slot as TheSlot}
 use Rattle.layout_plan.specs.declared.part.Placed.{Placed}
 use Rattle.layout_plan.specs.declared.part.Fate.TheVariants.{Kept}
-use Rattle.layout_plan.specs.Plans.{Plan, IsExtra, IsBehind, IsInside, is_taken}
+use Rattle.layout_plan.specs.Plans.{Plan, IsExtra, IsBehind, IsPlacedInside, is_taken}
 use Rattle.mbr_table.specs.declared.slot.Slot.{Slot}
-use Rattle.mbr_table.specs.Mbr.{Table, IsMbrTable, IsSound, IsSectorTable, slots_of, mbr_sector_of, table_of}
-use Rattle.mbr_table.specs.Slot.{empty_slot, is_used, is_extended, holds_extended, end_of, is_bad, kept}
+use Rattle.mbr_table.specs.Mbr.{Table, IsMbrTable, AreSound, IsSectorTable, slots_of, mbr_sector_of, table_of}
+use Rattle.mbr_table.specs.Slot.{empty_slot, is_used, is_extended, holds_extended, slot_end, is_bad_slot, kept_slot}
 use Rattle.mbr_table.proofs.Tables.{same_slots, table_on_disk, table_written}
 use Rattle.run_copy.specs.declared.transfer.Transfer.{Transfer}
-use Rattle.resize_core.specs.Parts.{parts_of, parts_from, part_of}
+use Rattle.resize_core.specs.Parts.{parts_of, parts_from, slot_part}
 use Rattle.resize_core.specs.Placing.{IsPlacing}
 use Rattle.resize_core.specs.Ready.{Work, IsDone}
 use Rattle.resize_core.specs.Same.{HasSlot, HasPlannedTable, IsSamePart, ReadsSame, slot_on}
@@ -80,25 +80,25 @@ all_four P f each (suc (suc (suc (suc i)))) h = absurd (omega arith)
 
 -- a slot may stand in the table of a disk of that many sectors, and is read as it is written
 record IsFit (sectors : ℕ) (slot : Slot) : Type 0 where
-  good : (extended : Bool) → is_bad sectors extended slot ≡ false
+  good : (extended : Bool) → is_bad_slot sectors extended slot ≡ false
   start_fits : slot.start < 2 ^ 32
   count_fits : slot.count < 2 ^ 32
-  stays : kept slot ≡ slot
+  stays : kept_slot slot ≡ slot
   plain : holds_extended slot ≡ false
 
 empty_fit : (sectors : ℕ) → IsFit sectors empty_slot
 empty_fit sectors = record { good = λ extended. refl; start_fits = omega arith; count_fits = omega arith; stays = refl; plain = refl }
 
-not_bad : (sectors : ℕ) (extended : Bool) (slot : Slot) → is_extended slot ≡ false → 1 ≤ slot.start → end_of slot ≤ sectors → is_bad sectors extended slot ≡ false
+not_bad : (sectors : ℕ) (extended : Bool) (slot : Slot) → is_extended slot ≡ false → 1 ≤ slot.start → slot_end slot ≤ sectors → is_bad_slot sectors extended slot ≡ false
 not_bad sectors extended slot plain behind inside =
     let start : (slot.start == 0) ≡ false = grind (arith, nat_tests) in
     let end : nat_lt sectors (slot.start + slot.count) ≡ false = grind (arith, nat_tests) in
-    ap (λ b. is_used slot && (b || nat_lt sectors (end_of slot) || (is_extended slot && extended))) start
+    ap (λ b. is_used slot && (b || nat_lt sectors (slot_end slot) || (is_extended slot && extended))) start
     ∙ ap (λ b. is_used slot && (false || b || (is_extended slot && extended))) end
     ∙ ap (λ b. is_used slot && (false || false || (b && extended))) plain
     ∙ elim (is_used slot) as (λ b. (b && false) ≡ false) [ true ↦ refl | false ↦ refl ]
 
-used_fit : (sectors : ℕ) (slot : Slot) → is_used slot ≡ true → is_extended slot ≡ false → 1 ≤ slot.start → end_of slot ≤ sectors → sectors ≤ 2 ^ 31 → IsFit sectors slot
+used_fit : (sectors : ℕ) (slot : Slot) → is_used slot ≡ true → is_extended slot ≡ false → 1 ≤ slot.start → slot_end slot ≤ sectors → sectors ≤ 2 ^ 31 → IsFit sectors slot
 used_fit sectors slot used plain behind inside few = record {
   good = λ extended. not_bad sectors extended slot plain behind inside;
   start_fits = omega arith;
@@ -159,10 +159,10 @@ part_behind : (part : Part) (parts : List Part) (number : ℕ) → HasPart parts
 part_behind part parts number has = record { place = suc has.place; within = omega (arith, has.within); numbered = has.numbered }
 
 abbrev parts_with : Bool → ℕ → Slot → List Slot → List Part
-parts_with used first one slots = if used then part_of first one ∷ parts_from (first + 1) slots else parts_from (first + 1) slots
+parts_with used first one slots = if used then slot_part first one ∷ parts_from (first + 1) slots else parts_from (first + 1) slots
 
 behind_with : (used : Bool) (first number : ℕ) (one : Slot) (slots : List Slot) → HasPart (parts_from (first + 1) slots) number → HasPart (parts_with used first one slots) number
-behind_with true first number one slots has = part_behind (part_of first one) (parts_from (first + 1) slots) number has
+behind_with true first number one slots has = part_behind (slot_part first one) (parts_from (first + 1) slots) number has
 behind_with false first number one slots has = has
 
 here_with : (used : Bool) (first number : ℕ) (one : Slot) (slots : List Slot) → used ≡ true → first ≡ number → HasPart (parts_with used first one slots) number
@@ -190,7 +190,7 @@ module _ (source_sectors target_sectors : ℕ) (slots : List Slot) (plan : Plan)
     | inr none ↦ sym (ap (λ b. b && is_extended (slice_index_or slots i empty_slot)) used) ∙ none
   ]
 
-  placed_fit : (placed : Placed) → IsFromSlot source_sectors slots placed → IsInside Mbr plan.limit placed → IsFit target_sectors (placed_slot slots placed)
+  placed_fit : (placed : Placed) → IsFromSlot source_sectors slots placed → IsPlacedInside Mbr plan.limit placed → IsFit target_sectors (placed_slot slots placed)
   placed_fit placed from inside =
       let four = placing.sound.four in
       let used : is_used (placed_slot slots placed) ≡ true = ap (λ n. not ((source_slot slots placed).kind == 0) && not (n == 0)) from.same_count ∙ from.used in
@@ -213,10 +213,10 @@ module _ (source_sectors target_sectors : ℕ) (slots : List Slot) (plan : Plan)
   all_fit : (i : ℕ) → i < 4 → IsFit target_sectors (slice_index_or (target_slots slots plan) i empty_slot)
   all_fit = all_four (IsFit target_sectors) (target_slot slots plan) slot_fit
 
-  target_sound : IsSound target_sectors (target_slots slots plan)
+  target_sound : AreSound target_sectors (target_slots slots plan)
   target_sound = record { four = refl; none_bad = λ i h bad. false≢true (sym ((all_fit i h).good _) ∙ bad) }
 
-  target_kept : map kept (target_slots slots plan) ≡ target_slots slots plan
+  target_kept : map kept_slot (target_slots slots plan) ≡ target_slots slots plan
   target_kept = same_slots (target_slots slots plan) (λ i h. (all_fit i (omega arith)).stays)
 
   table_spelled : (head : List ℕ) → length head ≡ 446 → IsSectorTable target_sectors (mbr_sector_of head (target_slots slots plan)) (table_of head (target_slots slots plan))

@@ -1,20 +1,25 @@
 -- From what each step of judging the source answers to what is due.
-use Rattle.std.proofs.Common.{◌≡◌, ℕ, ◌*◌, ◌^◌, ◌<◌, ◌≤◌, inl, inr, refl, List, [], None, find, length, arith, sym, subst}
+use Rattle.std.proofs.Common.{◌≡◌, ℕ, ◌⊎◌, ◌*◌, ◌^◌, ◌<◌, ◌≤◌, inl, inr, refl, List, [], Option, None, find, length, MatchOption, arith, sym, subst}
 use Rattle.disk_base.specs.Faults.{Rose}
 use Rattle.mbr_table.specs.declared.fault.MbrFault.{MbrFault}
 use Rattle.mbr_table.specs.declared.fault.MbrFault.TheVariants as faults
+use Rattle.mbr_table.specs.declared.sector.SectorTable.{SectorTable}
 use Rattle.mbr_table.specs.declared.slot.Slot.{Slot}
-use Rattle.mbr_table.specs.Mbr.{Table, HasExtended as HasExtendedSlot, IsMbrTable, IsSectorTable, HasMbrFault, slots_of}
+use Rattle.mbr_table.specs.declared.slot.Logical.{Logical}
+use Rattle.mbr_table.specs.Chain.{AreChained}
+use Rattle.mbr_table.specs.Mbr.{IsProtective, IsSectorFault, IsSectorTable, HasMbrFault, plain_table}
 use Rattle.mbr_table.specs.Slot.{holds_extended}
 use Rattle.resize_core.proofs.ReadBack.{none_found}
-use Rattle.resize_core.specs.Targets.{HasNoExtended}
-use Rattle.run_end.specs.declared.end.Refusal.TheVariants.{NotYet}
-use Rattle.run_end.specs.declared.end.SourceFault.TheVariants.{TooLarge}
+use Rattle.run_end.specs.declared.end.Refusal.{Refusal}
+use Rattle.run_end.specs.declared.end.Refusal.TheVariants.{NotYet, Source}
+use Rattle.run_end.specs.declared.end.SourceFault.{SourceFault}
+use Rattle.run_end.specs.declared.end.SourceFault.TheVariants.{TooLarge, NoSignature, Entry, Overlap}
 use Rattle.resize_core.specs.declared.unready.Unready.{Unready}
-use Rattle.resize_core.specs.declared.unready.Unready.TheVariants.{Refused, Device}
-use Rattle.resize_core.specs.Copying.{IsNoSource, IsOwnTable, IsRuled, IsServedTable}
-use Rattle.disk_base.specs.Image.{bytes_at, sector, sectors_of}
-use Rattle.resize_core.specs.inside.Working.{SourceFailed, IsTableFault, IsUnready, unready_of_fault}
+use Rattle.resize_core.specs.declared.unready.Unready.TheVariants.{Refused}
+use Rattle.resize_core.specs.Copying.{IsNoSource, IsRuled, IsServedTable, IsUnserved}
+use Rattle.disk_base.specs.Image.{sector, sectors_of}
+use Rattle.resize_core.specs.inside.Judging.{IsExtendedSector, IsRefusedSector, IsSectorOfNoSource, IsServedSector, refusal_of_fault}
+use Rattle.resize_core.specs.inside.Working.{SourceFailed, IsUnready}
 
 -- how many sectors a disk of whole sectors has
 pub sectors_is : (image : List ℕ) (n : ℕ) → length image ≡ 512 * n → sectors_of image ≡ n
@@ -24,62 +29,69 @@ sectors_is image n long = omega arith
 pub judged_large : (image : List ℕ) (n : ℕ) → length image ≡ 512 * n → 2 ^ 31 < n → IsNoSource image (TooLarge n)
 judged_large image n long large = (sym (sectors_is image n long), large)
 
--- another table
-pub judged_other : (image target : List ℕ) (n : ℕ) → length image ≡ 512 * n → n ≤ 2 ^ 31 → IsRuled n image → IsUnready image target (Refused NotYet)
-judged_other image target n long few ruled =
-    let is = sectors_is image n long in
-    let Ruled : ℕ → Type 0 = λ k. IsRuled k image in
-    inr (inl (record { small = omega arith; ruled = subst Ruled (sym is) ruled }))
+-- a table that is served
+pub judged_served : (image : List ℕ) (n : ℕ) (found : SectorTable) → length image ≡ 512 * n → n ≤ 2 ^ 31
+    → IsServedSector n (sector image 0) (plain_table found) → IsServedTable image (plain_table found)
+judged_served image n found long few is =
+    let Own : ℕ → Type 0 = λ k. (k ≤ 2 ^ 31) × IsSectorTable k (sector image 0) (plain_table found) in
+    let own : Own (sectors_of image) = subst Own (sym (sectors_is image n long)) (few, is.in_sector) in
+    let none : find holds_extended found.slots ≡ None = none_found holds_extended found.slots is.plain in
+    let Logicals : Option Slot → Type 0 = λ extended. MatchOption extended (◌≡◌ {A = List Logical} [] []) (λ one. AreChained image one []) in
+    record {
+      own = record {
+        small = own.0;
+        own = λ ruled. is.own ruled.1;
+        is_table = record { in_sector = own.1; logicals = subst Logicals (sym none) (refl {A = List Logical}) };
+      };
+      plain = is.plain;
+    }
 
--- an extended partition, whatever its chain is
-chained : (image target : List ℕ) (n : ℕ) (extended : Slot) → length image ≡ 512 * n → n ≤ 2 ^ 31 → (IsRuled n image → ⊥) → HasExtendedSlot n (sector image 0) extended → IsUnready image target (Refused NotYet)
-chained image target n extended long few own has =
-    let table : Table = record { head = bytes_at (sector image 0) 0 446; slots = slots_of (sector image 0); logicals = [] } in
-    let in_sector : IsSectorTable n (sector image 0) table = record { some = has.some; signature = has.signature; head = refl; slots = refl; sound = has.sound } in
-    let Own : ℕ → Type 0 = λ k. (k ≤ 2 ^ 31) × (IsRuled k image → ⊥) × IsSectorTable k (sector image 0) table in
-    let is : Own (sectors_of image) = subst Own (sym (sectors_is image n long)) (few, own, in_sector) in
-    inr (inr (record {
-      table = table;
-      own = record { small = is.0; own = is.1; in_sector = is.2 };
-      extended = λ plain. let none : find holds_extended (slots_of (sector image 0)) ≡ None = none_found holds_extended (slots_of (sector image 0)) plain in let some = has.found in cc;
-    }))
+-- what a fault of the sector refuses with
+pub refused_by : (n : ℕ) (bytes : List ℕ) (fault : MbrFault) → (IsProtective bytes → ⊥) → IsSectorFault n bytes fault
+    → IsRefusedSector n bytes (refusal_of_fault fault)
+refused_by n bytes faults.NoSignature own has = inr (NoSignature, refl, has)
+refused_by n bytes (faults.Entry number) own has = inr (Entry number, refl, (own, has))
+refused_by n bytes (faults.Chain at) own has = absurd has
+refused_by n bytes (faults.TooMany at) own has = absurd has
+refused_by n bytes faults.Device own has = absurd has
+refused_by n bytes faults.Memory own has = absurd has
 
--- no table
-unready_by : (image target : List ℕ) (n : ℕ) (fault : MbrFault) → length image ≡ 512 * n → n ≤ 2 ^ 31 → (IsRuled n image → ⊥) → HasMbrFault n image fault → IsUnready image target (unready_of_fault fault)
-unready_by image target n faults.NoSignature long few own has =
-    let Fault : ℕ → Type 0 = λ k. (k ≤ 2 ^ 31) × HasMbrFault k image faults.NoSignature in inr (subst Fault (sym (sectors_is image n long)) (few, has))
-unready_by image target n (faults.Entry number) long few own has =
+-- one that isn't served
+unserved_by : (image : List ℕ) (n : ℕ) → length image ≡ 512 * n → 0 < n → n ≤ 2 ^ 31
+    → IsProtective (sector image 0) ⊎ IsExtendedSector n (sector image 0) → IsUnserved image
+unserved_by image n long some few (inl ruled) =
+    inl (record { small = omega (arith, sectors_is image n long); ruled = (omega (arith, sectors_is image n long), ruled) })
+unserved_by image n long some few (inr extended) =
+    let Own : ℕ → Type 0 = λ k. (k ≤ 2 ^ 31) × IsSectorTable k (sector image 0) extended.table in
+    let own : Own (sectors_of image) = subst Own (sym (sectors_is image n long)) (few, extended.in_sector) in
+    inr (record {
+      table = extended.table;
+      own = record { small = own.0; own = λ ruled. extended.own ruled.1; in_sector = own.1 };
+      extended = extended.extended;
+    })
+
+-- one that is no source
+no_source_by : (image : List ℕ) (n : ℕ) (fault : SourceFault) → length image ≡ 512 * n → n ≤ 2 ^ 31
+    → IsSectorOfNoSource n (sector image 0) fault → IsNoSource image fault
+no_source_by image n (TooLarge k) long few has = absurd has
+no_source_by image n NoSignature long few has =
+    let Fault : ℕ → Type 0 = λ k. (k ≤ 2 ^ 31) × HasMbrFault k image faults.NoSignature in subst Fault (sym (sectors_is image n long)) (few, has)
+no_source_by image n (Entry number) long few has =
     let Fault : ℕ → Type 0 = λ k. (k ≤ 2 ^ 31) × (IsRuled k image → ⊥) × HasMbrFault k image (faults.Entry number) in
-    inr (subst Fault (sym (sectors_is image n long)) (few, own, has))
-unready_by image target n (faults.Chain at) long few own has = chained image target n has.0 long few own has.1
-unready_by image target n (faults.TooMany at) long few own has = chained image target n has.0 long few own has.1
-unready_by image target n faults.Device long few own has = tt
-unready_by image target n faults.Memory long few own has = inl refl
+    let own : IsRuled n image → ⊥ = λ ruled. has.0 ruled.1 in
+    subst Fault (sym (sectors_is image n long)) (few, own, has.1)
+no_source_by image n (Overlap a b) long few has = absurd has
 
-pub judged_fault : (image target : List ℕ) (n : ℕ) (unready : Unready) → length image ≡ 512 * n → n ≤ 2 ^ 31 → (IsRuled n image → ⊥) → IsTableFault n image unready → IsUnready image target unready
-judged_fault image target n unready long few own fault =
-    let Is : Unready → Type 0 = λ one. IsUnready image target one in
-    subst Is (sym fault.1) (unready_by image target n fault.0 long few own fault.2)
+pub judged_refused : (image target : List ℕ) (n : ℕ) (refusal : Refusal) → length image ≡ 512 * n → 0 < n → n ≤ 2 ^ 31
+    → IsRefusedSector n (sector image 0) refusal → IsUnready image target (Refused refusal)
+judged_refused image target n refusal long some few (inl yet) =
+    let Is : Refusal → Type 0 = λ one. IsUnready image target (Refused one) in
+    subst Is (sym yet.0) (inr (unserved_by image n long some few yet.1))
+judged_refused image target n refusal long some few (inr source) =
+    let Is : Refusal → Type 0 = λ one. IsUnready image target (Refused one) in
+    subst Is (sym source.1) (inr (no_source_by image n source.0 long few source.2))
 
--- a table of its own
-pub judged_own : (image : List ℕ) (n : ℕ) (table : Table) → length image ≡ 512 * n → n ≤ 2 ^ 31 → (IsRuled n image → ⊥) → IsMbrTable n image table → IsOwnTable image table
-judged_own image n table long few own is_table =
-    let Own : ℕ → Type 0 = λ k. (k ≤ 2 ^ 31) × (IsRuled k image → ⊥) × IsMbrTable k image table in
-    let is : Own (sectors_of image) = subst Own (sym (sectors_is image n long)) (few, own, is_table) in
-    record { small = is.0; own = is.1; is_table = is.2 }
-
--- a table that is served, and one with an extended partition
-pub judged_served : (image : List ℕ) (n : ℕ) (table : Table) → length image ≡ 512 * n → n ≤ 2 ^ 31 → (IsRuled n image → ⊥) → IsMbrTable n image table
-    → HasNoExtended table.slots → IsServedTable image table
-judged_served image n table long few own is_table plain = record { own = judged_own image n table long few own is_table; plain = plain }
-
-pub judged_extended : (image target : List ℕ) (n : ℕ) (table : Table) → length image ≡ 512 * n → n ≤ 2 ^ 31 → (IsRuled n image → ⊥) → IsMbrTable n image table
-    → (HasNoExtended table.slots → ⊥) → IsUnready image target (Refused NotYet)
-judged_extended image target n table long few own is_table extended =
-    let is = judged_own image n table long few own is_table in
-    inr (inr (record { table = table; own = record { small = is.small; own = is.own; in_sector = is.is_table.in_sector }; extended = extended }))
-
--- a count that rose since a later moment rose since an earlier one
-pub caused_since : (before mid now : ℕ) (unready : Unready) → before ≤ mid → SourceFailed (Rose mid now) unready → SourceFailed (Rose before now) unready
-caused_since before mid now Device later caused = omega (arith, caused)
-caused_since before mid now (Refused refusal) later caused = tt
+-- a disk without sectors
+pub judged_empty : (image target : List ℕ) (n : ℕ) → length image ≡ 512 * n → n ≡ 0 → IsUnready image target (Refused (Source NoSignature))
+judged_empty image target n long none =
+    inr (omega (arith, sectors_is image n long), inl (omega (arith, sectors_is image n long)))

@@ -5,7 +5,8 @@ use Rattle.disk_base.specs.Stops.{Stops, IsSettled, Adds, Follows}
 use Rattle.disk_base.proofs.Moments.{adds_weaker, follows_settled}
 use Rattle.resize_core.specs.Finished.{HasNoTable}
 use Rattle.resize_core.specs.inside.Phases.{KeepsFirst}
-use Rattle.resize_core.specs.Ready.{Work, IsDone, IsAtGate, CanBeDone}
+use Rattle.resize_core.specs.Ready.{Work, IsDone, IsAtGate}
+use Rattle.resize_core.specs.inside.Carrying.{CanBeDone}
 use Rattle.resize_core.proofs.Finishing.{zeros_long, old_or_with, no_table_cleared, at_gate}
 
 module _ (work : Work) (source old : List ℕ)

@@ -23,7 +23,7 @@ use Rattle.resize_core.specs.inside.Working.{FailedBy, IsCutShort, IsCutWork, Is
 use Rattle.run_end.specs.declared.end.End.TheVariants.{Failed}
 use Rattle.run_end.specs.declared.end.Failing.{Failing}
 use Rattle.run_end.specs.declared.end.Failing.TheVariants.{Device, Printing}
-use Rattle.run_end.specs.Ending.{Cause, IsDue, Leaves, MayPass, Meaning, Prints}
+use Rattle.run_end.specs.Ending.{Cause, IsDue, EndLeaves, MayPass, Meaning, Prints}
 use Rattle.resize_core.proofs.ReadBack.{has_planned_table, reads_same}
 use Rattle.resize_core.proofs.SourceLemmas.{sectors_is}
 
@@ -34,7 +34,6 @@ unready_by source target sectors table (refused.Overlap a b) served is why = inr
 unready_by source target sectors table (refused.NoPlan fault) served is why =
     let For : ℕ → Type 0 = λ n. IsRefusedFor n table (refused.NoPlan fault) in
     inr (record { table = table; served = served; refused = subst For (sym is) why })
-unready_by source target sectors table refused.Device served is why = tt
 unready_by source target sectors table refused.Memory served is why = inl refl
 
 pub unready_of : (source target : List ℕ) (sectors : ℕ) (table : Table) (unready : Unready) → IsServedTable source table → sectors_of target ≡ sectors → IsWorkRefused sectors table unready
@@ -104,7 +103,7 @@ module _ (from to source source' : List ℕ) (old mid new : Held) (work : Work) 
   cut devices.Source left = left
   cut devices.Target left = passes new.image left
 
-  pub left_after : (failing : Failing) → IsCutShort work source' mid new failing → Leaves (copy_of from to source old.image) old new (Failed failing)
+  pub left_after : (failing : Failing) → IsCutShort work source' mid new failing → EndLeaves (copy_of from to source old.image) old new (Failed failing)
   left_after (Device fault) left = inr (cut fault left)
   left_after Printing left = elim left [ inl kept ↦ inl (untouched kept) | inr done ↦ inr (finished new.image done) ]
 

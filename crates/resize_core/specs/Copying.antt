@@ -15,7 +15,7 @@ use Rattle.resize_core.specs.Ready.{Work, IsDone}
 use Rattle.resize_core.specs.Same.{HasPlannedTable, ReadsSame}
 use Rattle.resize_core.specs.Targets.{IsRefusedFor, HasNoExtended, IsReady}
 use Rattle.run_end.specs.declared.end.Refusal.{Refusal}
-use Rattle.run_end.specs.declared.end.Refusal.TheVariants.{NotYet, Source, Plan, Memory}
+use Rattle.run_end.specs.declared.end.Refusal.TheVariants.{Usage, NotYet, Source, Plan, Memory}
 use Rattle.run_end.specs.declared.end.SourceFault.{SourceFault}
 use Rattle.run_end.specs.declared.end.SourceFault.TheVariants.{TooLarge, NoSignature, Entry, Overlap}
 use Rattle.disk_base.specs.Devices.{Use}
@@ -61,13 +61,13 @@ IsNoSource image (Entry number) = IsSmall image × (IsRuled (sectors_of image) i
 IsNoSource image (Overlap a b) = (table : Table) × IsServedTable image table × IsOverlap table.slots a b
 
 -- a disk that isn't served yet: another table rules it, or a slot holds an extended partition
-pub record HasExtended (image : List ℕ) : Type 0 where
+pub record HasExtendedSlot (image : List ℕ) : Type 0 where
   pub table : Table
   pub own : IsOwnSector image table
   pub extended : HasNoExtended table.slots → ⊥
 
 abbrev pub IsUnserved : List ℕ → Type 0
-IsUnserved image = IsOtherTable image ⊎ HasExtended image
+IsUnserved image = IsOtherTable image ⊎ HasExtendedSlot image
 
 -- why there is no plan
 pub record HasNoPlanFor (source target : List ℕ) (fault : NoPlan) : Type 0 where
@@ -77,6 +77,7 @@ pub record HasNoPlanFor (source target : List ℕ) (fault : NoPlan) : Type 0 whe
 
 -- the refusals that are due of a copy
 abbrev pub IsCopyRefused : List ℕ → List ℕ → Refusal → Type 0
+IsCopyRefused source target (Usage usage) = ⊥
 IsCopyRefused source target NotYet = IsUnserved source
 IsCopyRefused source target (Source fault) = IsNoSource source fault
 IsCopyRefused source target (Plan fault) = HasNoPlanFor source target fault

@@ -4,6 +4,7 @@ pub mod Parts
 pub mod Placing
 pub mod Ready
 pub mod Same
+pub mod Sources
 pub mod Summary
 pub mod Targets
 pub mod inside

@@ -15,6 +15,16 @@ pub record Work : Type 0 where
   pub source_sectors : ℕ
   pub target_sectors : ℕ
 
+abbrev pub work_of : Plan → List ℕ → ℕ → List Transfer → ℕ → ℕ → Work
+work_of plan table boot transfers source_sectors target_sectors = record {
+  plan = plan;
+  table = table;
+  boot = boot;
+  transfers = transfers;
+  source_sectors = source_sectors;
+  target_sectors = target_sectors;
+}
+
 -- what the target holds once the work is done
 abbrev pub IsDone : Work → List ℕ → List ℕ → List ℕ → Type 0
 IsDone work source old new = IsFinished work.table work.boot work.transfers source old new
@@ -39,7 +49,3 @@ abbrev pub StopsAtGate : {S T : Type 0} → Work → BlocksGhosts S → S → Bl
 StopsAtGate work s source t d target target' =
     IsTrue s.tells → IsTrue d.tells_stops → IsSettled (t.image target) (d.stops target)
     → LeavesOnly (IsAtGate work (s.image source) (t.image target)) (d.stops target) (d.stops target')
-
--- work that can be carried out
-abbrev pub CanBeDone : Work → Type 0
-CanBeDone work = IsCarriable work.source_sectors work.target_sectors work.boot work.transfers

@@ -12,7 +12,7 @@ use Rattle.mbr_table.specs.declared.slot.Slot.{Slot}
 use Rattle.mbr_table.specs.Mbr.{Table, mbr_sector_of}
 use Rattle.mbr_table.specs.Slot.{empty_slot, holds_extended}
 use Rattle.resize_core.specs.declared.refusal.MbrRefused.{MbrRefused}
-use Rattle.resize_core.specs.declared.refusal.MbrRefused.TheVariants.{Overlap, NoPlan, Device, Memory}
+use Rattle.resize_core.specs.declared.refusal.MbrRefused.TheVariants.{Overlap, NoPlan, Memory}
 use Rattle.run_copy.specs.declared.transfer.Transfer.{Transfer}
 use Rattle.resize_core.specs.Parts.{parts_of, LieApart, IsOverlap}
 use Rattle.resize_core.specs.Ready.{Work}
@@ -67,12 +67,6 @@ boot_end parts plan =
     if length parts == 0 || length plan.parts == 0 then 1
     else least_start (map (λ (part : Part). part.start) parts ++ map (λ (placed : Placed). placed.start) plan.parts)
 
--- a placed partition whose source slot and place a table can name
-pub record IsNamed (placed : Placed) : Type 0 where
-  pub from_one : 1 ≤ placed.from
-  pub to_four : placed.from ≤ 4
-  pub end_named : placed.start + placed.count ≤ 2 ^ 31
-
 -- the layout of a plain copy
 abbrev pub plain_layout : Layout
 plain_layout = record { align = 128; always = false; extra = true }
@@ -95,7 +89,6 @@ abbrev pub HasNoPlanFor : ℕ → List Part → MbrRefused → Type 0
 HasNoPlanFor target_sectors parts (Overlap a b) = ⊥
 HasNoPlanFor target_sectors parts (NoPlan TooLittleMemory) = ⊥
 HasNoPlanFor target_sectors parts (NoPlan fault) = HasNoPlan Mbr parts [] plain_layout target_sectors fault
-HasNoPlanFor target_sectors parts Device = ⊥
 HasNoPlanFor target_sectors parts Memory = Unit {0}
 
 -- why the disk of that table can't be copied to one of target_sectors sectors: the first two slots that share a
@@ -103,5 +96,4 @@ HasNoPlanFor target_sectors parts Memory = Unit {0}
 abbrev pub IsRefusedFor : ℕ → Table → MbrRefused → Type 0
 IsRefusedFor target_sectors table (Overlap a b) = IsOverlap table.slots a b
 IsRefusedFor target_sectors table (NoPlan fault) = LieApart table.slots × HasNoPlanFor target_sectors (parts_of table.slots) (NoPlan fault)
-IsRefusedFor target_sectors table Device = ⊥
 IsRefusedFor target_sectors table Memory = Unit {0}

@@ -5,24 +5,23 @@ ghost use Rattle.disk_base.specs.Devices.{AskedOnce, CausedBy, held};
 ghost use Rattle.disk_base.specs.Faults.{Rose};
 ghost use Rattle.disk_base.specs.Log.{IsWritable};
 ghost use Rattle.disk_base.specs.Stops.{Waits};
-ghost use Rattle.mbr_table.specs.Mbr.{IsSound};
+ghost use Rattle.mbr_table.specs.Mbr.{plain_table};
 ghost use Rattle.resize_core.specs.Copying.{copy_on, to_change, to_read};
 ghost use Rattle.resize_core.specs.Parts.{LieApart};
-ghost use Rattle.resize_core.specs.Placing.{IsPlacing};
+ghost use Rattle.resize_core.specs.Sources.{IsReadyFor};
 ghost use Rattle.resize_core.specs.Summary.{lines_of};
-ghost use Rattle.resize_core.specs.Targets.{HasNoExtended, IsReady};
-ghost use Rattle.resize_core.specs.inside.Working.{AsksOnly, AttachedFirst, IsWorkRefused, LeavesOn, OnCopy, PreparedOn, PrintsOn, SourceFailed, StopsOn, UnreadyOn, unready_of_refused};
+ghost use Rattle.resize_core.specs.inside.Working.{AsksOnly, AttachedFirst, CausesOn, IsWorkRefused, LeavesOn, OnCopy, PreparedOn, PrintsOn, SourceFailed, StopsOn, UnreadyOn, unready_of_refused};
 ghost use Rattle.run_end.specs.Ending.{Attached, Cause, IsDue, Settled, Unprinted};
 
 use crate::judging::judge;
 use crate::preparing::prepare_mbr;
 use crate::ready::Ready;
 use crate::refusal::MbrRefused;
+use crate::source_table::SourceTable;
 use crate::summary::summary;
 use crate::unready::Unready;
 use crate::writing::write;
 use disk_base::{Blocks, DeviceFault, Disk, Mode, Sink};
-use mbr_table::Mbr;
 use run_copy::BUFFER;
 use run_end::{End, Failing, Refusal, SourceFault};
 use std::alloc::{AllocError, Global};
@@ -51,18 +50,17 @@ fn unready_of(refused: MbrRefused) -> Unready
             Unready::Refused(Refusal::Source(SourceFault::Overlap { a, b }))
         }
         MbrRefused::NoPlan(fault) => Unready::Refused(Refusal::Plan(fault)),
-        MbrRefused::Device => Unready::Device,
         MbrRefused::Memory => Unready::Refused(Refusal::Memory),
     }
 }
 
 // The work, its summary and the buffer.
-fn gather(alloc: Global, mbr: &Mbr, ready: Ready) -> Result<Prepared, AllocError>
+fn gather(alloc: Global, source: &SourceTable, ready: Ready) -> Result<Prepared, AllocError>
     ensures ready { IfOk result (λ prepared. prepared.ready ≡ ready) }
-    ensures summary { IfOk result (λ prepared. string_bytes prepared.summary ≡ lines_of mbr.now.slots ready.plan) }
+    ensures summary { IfOk result (λ prepared. string_bytes prepared.summary ≡ lines_of source.now.table.slots ready.plan) }
     ensures buffer { IfOk result (λ prepared. length prepared.buffer.items ≡ 1048576) }
 {
-    let summary = summary(alloc, mbr.slots(), ready.plan())?;
+    let summary = summary(alloc, &source.table.slots, ready.plan())?;
     let buffer = zeros(alloc, BUFFER)?;
     Ok(Prepared {
         ready,
@@ -71,51 +69,22 @@ fn gather(alloc: Global, mbr: &Mbr, ready: Ready) -> Result<Prepared, AllocError
     })
 }
 
-// The copy of a disk of that table, made ready, or why it can't be.
-fn ready_for<S: Blocks>(
-    alloc: Global,
-    source: &mut S,
-    mbr: &Mbr,
-    sectors: u64,
-) -> Result<Ready, Unready>
-    requires some { 0 < S.size source.old }
-    requires few { S.size source.old ≤ 2 ^ 31 }
-    requires sound { IsSound (S.size source.old) mbr.now.slots }
-    requires plain { HasNoExtended mbr.now.slots }
-    ensures unread { source.new ≡ source.old }
-    ensures ready { IfOk result (λ ready. IsReady (S.size source.old) sectors mbr.now ready) }
-    ensures placed { IfOk result (λ ready. IsPlacing (S.size source.old) sectors mbr.now.slots ready.plan) }
-    ensures apart { OnOk result (LieApart mbr.now.slots) }
-    ensures refused { IfErr result (IsWorkRefused sectors mbr.now) }
-{
-    match prepare_mbr(alloc, source, mbr, sectors) {
-        Ok(ready) => Ok(ready),
-        Err(refused) => Err(unready_of(refused)),
-    }
-}
-
 // The work for a table, with its summary and the buffer.
-fn prepare_for<S: Blocks>(
-    alloc: Global,
-    source: &mut S,
-    mbr: &Mbr,
-    sectors: u64,
-) -> Result<Prepared, Unready>
-    requires some { 0 < S.size source.old }
-    requires few { S.size source.old ≤ 2 ^ 31 }
-    requires sound { IsSound (S.size source.old) mbr.now.slots }
-    requires plain { HasNoExtended mbr.now.slots }
-    ensures unread { source.new ≡ source.old }
-    ensures work { IfOk result (λ prepared. IsReady (S.size source.old) sectors mbr.now prepared.ready) }
-    ensures placed { IfOk result (λ prepared. IsPlacing (S.size source.old) sectors mbr.now.slots prepared.ready.plan) }
-    ensures apart { OnOk result (LieApart mbr.now.slots) }
-    ensures summary { IfOk result (λ prepared. string_bytes prepared.summary ≡ lines_of mbr.now.slots prepared.ready.plan) }
+fn prepare_for(alloc: Global, source: &SourceTable, sectors: u64) -> Result<Prepared, Unready>
+    ensures work { IfOk result (λ prepared. IsReadyFor source.now sectors prepared.ready) }
+    ensures apart { OnOk result (LieApart source.now.table.slots) }
+    ensures summary { IfOk result (λ prepared. string_bytes prepared.summary ≡ lines_of source.now.table.slots prepared.ready.plan) }
     ensures buffer { IfOk result (λ prepared. length prepared.buffer.items ≡ 1048576) }
-    ensures refused { IfErr result (IsWorkRefused sectors mbr.now) }
+    ensures refused { IfErr result (IsWorkRefused sectors (plain_table source.now.table)) }
 {
-    let ready = ready_for(alloc, source, mbr, sectors)?;
-    let prepared = gather(alloc, mbr, ready).map_err(|_| Unready::Refused(Refusal::Memory))?;
-    Ok(prepared)
+    let ready = match prepare_mbr(alloc, source, sectors) {
+        Ok(ready) => ready,
+        Err(refused) => return Err(unready_of(refused)),
+    };
+    match gather(alloc, source, ready) {
+        Ok(prepared) => Ok(prepared),
+        Err(_) => Err(Unready::Refused(Refusal::Memory)),
+    }
 }
 
 // The work that is due, by what the source holds and the target's size.
@@ -128,15 +97,15 @@ fn prepare<S: Blocks>(alloc: Global, source: &mut S, sectors: u64) -> Result<Pre
     ensures buffer { IfOk result (λ prepared. length prepared.buffer.items ≡ 1048576) }
     ensures cause { IfErr result (SourceFailed (Rose (S.faults source.old) (S.faults source.new))) }
 {
-    let mbr = judge(alloc, source)?;
-    let prepared = prepare_for(alloc, source, &mbr, sectors)?;
+    let table = judge(source)?;
+    let prepared = prepare_for(alloc, &table, sectors)?;
     Ok(prepared)
 }
 
 // Attaches the source to be read and the target to be changed.
 fn attach_both<S: Disk, T: Disk>(
-    from: &str,
-    to: &str,
+    from: &[u8],
+    to: &[u8],
     source: &mut S,
     target: &mut T,
 ) -> Result<(), DeviceFault>
@@ -151,9 +120,9 @@ fn attach_both<S: Disk, T: Disk>(
     ensures target_later { T.faults target.old ≤ T.faults target.new }
     ensures cause { IfErr result (CausedBy S.Blocks source.old source.new T.Blocks target.old target.new) }
 {
-    let read = source.attach(from.as_bytes(), Mode::Read);
+    let read = source.attach(from, Mode::Read);
     read.map_err(|_| DeviceFault::Source)?;
-    let change = target.attach(to.as_bytes(), Mode::Change);
+    let change = target.attach(to, Mode::Change);
     change.map_err(|_| DeviceFault::Target)?;
     Ok(())
 }
@@ -162,13 +131,13 @@ fn attach_both<S: Disk, T: Disk>(
 /// summary, carries it out and prints the last line.
 pub fn copy<S: Disk, T: Disk, O: Sink>(
     alloc: Global,
-    from: &str,
-    to: &str,
+    from: &[u8],
+    to: &[u8],
     source: &mut S,
     target: &mut T,
     out: &mut O,
 ) -> End
-    ensures cause { Cause (copy_on from.now to.now S.Blocks source.old T.Blocks target.old) (Rose (S.faults source.old) (S.faults source.new)) (Rose (T.faults target.old) (T.faults target.new)) (Rose (O.sink_faults out.old) (O.sink_faults out.new)) result }
+    ensures cause { CausesOn from.now to.now S.Blocks source.old source.new T.Blocks target.old target.new O.Sink out.old out.new result }
     ensures attached { Attached (copy_on from.now to.now S.Blocks source.old T.Blocks target.old) (S.attached source.new) (T.attached target.new) result }
     ensures source { AsksOnly S.Blocks S.Disk.own (to_read from.now) source.old source.new }
     ensures asked { IsTrue T.tells → AskedOnce (to_change to.now) (T.log target.old) (T.log target.new) }

@@ -1,6 +1,7 @@
 //! The partitions of a table, and whether its slots lie apart.
 ghost use Rattle.std.specs.Prelude.{◌≡◌, ℕ, ◌+◌, ◌-◌, ◌<◌, ◌≤◌, IfOk, IfSome, MatchOption, length};
-ghost use Rattle.resize_core.specs.Parts.{part_of, parts_of, share, Meet, LieApart, IsFirstPair, IsOverlap, MeetsNone, MeetsFirst};
+ghost use Rattle.resize_core.specs.Parts.{slot_part, parts_of, share_sector, Meet, LieApart, IsFirstPair, IsOverlap};
+ghost use Rattle.resize_core.specs.inside.Meetings.{MeetsNone, MeetsFirst};
 
 use layout_plan::{Part, Role};
 use mbr_table::Slot;
@@ -8,7 +9,7 @@ use std::alloc::{AllocError, Global};
 
 // The partition of a used slot.
 fn part(number: u32, slot: &Slot) -> Part
-    ensures { result ≡ part_of number slot.now }
+    ensures { result ≡ slot_part number slot.now }
 {
     let Slot { start, count, .. } = *slot;
     Part {
@@ -35,7 +36,7 @@ pub(crate) fn parts(alloc: Global, slots: &[Slot; 4]) -> Result<Vec<Part>, Alloc
 
 // Whether two slots are used and share a sector.
 fn meet(one: &Slot, other: &Slot) -> bool
-    ensures { result ≡ share one.now other.now }
+    ensures { result ≡ share_sector one.now other.now }
 {
     one.is_used()
         && other.is_used()

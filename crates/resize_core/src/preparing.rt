@@ -1,20 +1,21 @@
 //! Making the work ready, before the first write.
 ghost use Rattle.std.specs.Prelude.{◌≡◌, ℕ, ◌+◌, ◌^◌, ◌<◌, ◌≤◌, All, AllPairs, IfSome, IfOk, IfErr, OnOk, []};
-ghost use Rattle.layout_plan.specs.Plans.{IsPlan, AreNumbered, IsInside, IsBehind, IsSameOrder, KeepApart, NoneHollow};
+ghost use Rattle.layout_plan.specs.Plans.{IsPlan, AreNumbered, IsPlacedInside, IsBehind, IsSameOrder, KeepApart, NoneHollow};
 ghost use Rattle.layout_plan.specs.Source.{IsSource};
 ghost use Rattle.layout_plan.specs.declared.part.Kind.TheVariants.{Mbr as TheMbr};
-ghost use Rattle.mbr_table.specs.Mbr.{IsSound};
+ghost use Rattle.mbr_table.specs.Mbr.{plain_table};
 ghost use Rattle.resize_core.specs.Parts.{parts_of, LieApart};
 ghost use Rattle.resize_core.specs.Placing.{IsPlacing};
-ghost use Rattle.resize_core.specs.Targets.{IsReady, IsRefusedFor, HasNoPlanFor, HasNoExtended, plain_layout};
+ghost use Rattle.resize_core.specs.Sources.{IsReadyFor};
+ghost use Rattle.resize_core.specs.Targets.{IsRefusedFor, HasNoPlanFor, plain_layout};
 
 use crate::parts::{overlap, parts};
 use crate::ready::Ready;
 use crate::refusal::MbrRefused;
+use crate::source_table::SourceTable;
 use crate::targets::{boot, slots_to, transfers};
-use disk_base::Blocks;
 use layout_plan::{Kind, Layout, NoPlan, Part, Planned, plan};
-use mbr_table::{Mbr, Slot, mbr_sector};
+use mbr_table::mbr_sector;
 use std::alloc::{AllocError, Global};
 
 /// How a plain copy is laid out.
@@ -27,28 +28,26 @@ const PLAIN: Layout = Layout {
 // The work of a plan.
 fn work(
     alloc: Global,
-    source_sectors: u64,
+    source: &SourceTable,
     target_sectors: u64,
-    mbr: &Mbr,
     parts: &[Part],
     planned: Planned,
 ) -> Result<Ready, AllocError>
-    requires parts { parts.now ≡ parts_of mbr.now.slots }
-    requires placing { IsPlacing source_sectors target_sectors mbr.now.slots planned }
-    ensures ready { IfOk result (λ ready. IsReady source_sectors target_sectors mbr.now ready) }
-    ensures placed { IfOk result (λ ready. IsPlacing source_sectors target_sectors mbr.now.slots ready.plan) }
+    requires parts { parts.now ≡ parts_of source.now.table.slots }
+    requires placing { IsPlacing source.now.sectors target_sectors source.now.table.slots planned }
+    ensures ready { IfOk result (IsReadyFor source.now target_sectors) }
 {
-    let slots = mbr.slots();
+    let slots = &source.table.slots;
     let transfers = transfers(alloc, slots, &planned)?;
     let mut table = [0; 512];
-    mbr_sector(mbr.head(), &slots_to(slots, &planned), &mut table);
+    mbr_sector(&source.table.head, &slots_to(slots, &planned), &mut table);
     let boot = boot(parts, &planned);
     Ok(Ready {
         planned,
         table,
         boot,
         transfers,
-        source_sectors,
+        source_sectors: source.sectors,
         target_sectors,
     })
 }
@@ -62,7 +61,7 @@ fn plan_for(alloc: Global, parts: &[Part], sectors: u64) -> Result<Planned, MbrR
     ensures same_order { IfOk result (λ planned. IsSameOrder parts.now planned.parts) }
     ensures numbers { IfOk result (λ planned. AreNumbered TheMbr planned.parts) }
     ensures apart { IfOk result (λ planned. AllPairs KeepApart planned.parts) }
-    ensures inside { IfOk result (λ planned. All (IsInside TheMbr planned.limit) planned.parts) }
+    ensures inside { IfOk result (λ planned. All (IsPlacedInside TheMbr planned.limit) planned.parts) }
     ensures behind { IfOk result (λ planned. IfSome planned.extra (IsBehind TheMbr planned.parts planned.limit)) }
     ensures limit { IfOk result (λ planned. planned.limit ≤ sectors) }
 {
@@ -74,53 +73,26 @@ fn plan_for(alloc: Global, parts: &[Part], sectors: u64) -> Result<Planned, MbrR
 }
 
 // Makes ready the copy of a disk whose slots lie apart.
-fn prepare_apart(
-    alloc: Global,
-    source_sectors: u64,
-    mbr: &Mbr,
-    sectors: u64,
-) -> Result<Ready, MbrRefused>
-    requires some { 0 < source_sectors }
-    requires few { source_sectors ≤ 2 ^ 31 }
-    requires sound { IsSound source_sectors mbr.now.slots }
-    requires apart { LieApart mbr.now.slots }
-    ensures ready { IfOk result (λ ready. IsReady source_sectors sectors mbr.now ready) }
-    ensures placed { IfOk result (λ ready. IsPlacing source_sectors sectors mbr.now.slots ready.plan) }
-    ensures refused { IfErr result (HasNoPlanFor sectors (parts_of mbr.now.slots)) }
+fn prepare_apart(alloc: Global, source: &SourceTable, sectors: u64) -> Result<Ready, MbrRefused>
+    requires apart { LieApart source.now.table.slots }
+    ensures ready { IfOk result (IsReadyFor source.now sectors) }
+    ensures refused { IfErr result (HasNoPlanFor sectors (parts_of source.now.table.slots)) }
 {
-    let parts = parts(alloc, mbr.slots())?;
+    let parts = parts(alloc, &source.table.slots)?;
     let planned = plan_for(alloc, parts.as_slice(), sectors)?;
-    let ready = work(
-        alloc,
-        source_sectors,
-        sectors,
-        mbr,
-        parts.as_slice(),
-        planned,
-    )?;
+    let ready = work(alloc, source, sectors, parts.as_slice(), planned)?;
     Ok(ready)
 }
 
 /// Makes ready the copy of a disk of that table to a target of `sectors` sectors. It refuses, in this
-/// order, where two used slots share a sector and where there is no plan, and writes nothing.
-pub fn prepare_mbr<S: Blocks>(
-    alloc: Global,
-    source: &mut S,
-    mbr: &Mbr,
-    sectors: u64,
-) -> Result<Ready, MbrRefused>
-    requires some { 0 < S.size source.old }
-    requires few { S.size source.old ≤ 2 ^ 31 }
-    requires sound { IsSound (S.size source.old) mbr.now.slots }
-    requires plain { HasNoExtended mbr.now.slots }
-    ensures unread { source.new ≡ source.old }
-    ensures ready { IfOk result (λ ready. IsReady (S.size source.old) sectors mbr.now ready) }
-    ensures placed { IfOk result (λ ready. IsPlacing (S.size source.old) sectors mbr.now.slots ready.plan) }
-    ensures apart { OnOk result (LieApart mbr.now.slots) }
-    ensures refused { IfErr result (IsRefusedFor sectors mbr.now) }
+/// order, where two used slots share a sector and where there is no plan.
+pub fn prepare_mbr(alloc: Global, source: &SourceTable, sectors: u64) -> Result<Ready, MbrRefused>
+    ensures ready { IfOk result (IsReadyFor source.now sectors) }
+    ensures apart { OnOk result (LieApart source.now.table.slots) }
+    ensures refused { IfErr result (IsRefusedFor sectors (plain_table source.now.table)) }
 {
-    match overlap(mbr.slots()) {
+    match overlap(&source.table.slots) {
         Some((a, b)) => Err(MbrRefused::Overlap { a, b }),
-        None => prepare_apart(alloc, source.sectors(), mbr, sectors),
+        None => prepare_apart(alloc, source, sectors),
     }
 }

@@ -1,7 +1,7 @@
 //! The work that is ready to be carried out.
 ghost use Rattle.std.specs.Prelude.{◌≡◌};
 ghost use Rattle.resize_core.specs.Finished.{boot_transfer};
-ghost use Rattle.resize_core.specs.Ready.{CanBeDone};
+ghost use Rattle.resize_core.specs.inside.Carrying.{CanBeDone};
 
 use layout_plan::Planned;
 use run_copy::Transfer;
@@ -19,12 +19,12 @@ pub struct Ready {
 }
 
 impl Model for Ready {
-    ghost use Rattle.resize_core.specs.Ready.{Work};
+    ghost use Rattle.resize_core.specs.Ready.{Work, work_of};
     ghost use Rattle.resize_core.specs.Finished.{IsCarriable};
 
     ghost Value = { Work };
 
-    ghost view = { λ r. record { plan = r.planned; table = r.table; boot = r.boot; transfers = r.transfers.items; source_sectors = r.source_sectors; target_sectors = r.target_sectors } };
+    ghost view = { λ r. work_of r.planned r.table r.boot r.transfers.items r.source_sectors r.target_sectors };
 
     ghost invariant = { λ r. IsCarriable r.source_sectors r.target_sectors r.boot r.transfers.items };
 }

@@ -15,9 +15,6 @@ pub enum MbrRefused {
     /// There is no plan.
     #[error("{0}")]
     NoPlan(NoPlan),
-    /// The source failed.
-    #[error("Device")]
-    Device,
     /// Memory was refused.
     #[error("Memory")]
     Memory,

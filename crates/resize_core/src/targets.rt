@@ -1,9 +1,10 @@
 //! What a plan makes of a table: the target's slots, the contents to copy, and the boot area.
 ghost use Rattle.std.specs.Prelude.{◌≡◌, ℕ, ◌+◌, ◌-◌, ◌^◌, ◌<◌, ◌≤◌, All, IfSome, IfOk, length, find, ◌==◌};
 ghost use Rattle.layout_plan.specs.declared.part.Placed.{Placed};
-ghost use Rattle.layout_plan.specs.Plans.{IsInside};
+ghost use Rattle.layout_plan.specs.Plans.{IsPlacedInside};
 ghost use Rattle.mbr_table.specs.Slot.{empty_slot};
-ghost use Rattle.resize_core.specs.Targets.{source_slot, placed_slot, extra_slot, spare_slot, target_slot, target_slots, transfer_of, transfers_of, least_start, boot_end, IsNamed};
+ghost use Rattle.resize_core.specs.Targets.{source_slot, placed_slot, extra_slot, spare_slot, target_slot, target_slots, transfer_of, transfers_of, least_start, boot_end};
+ghost use Rattle.resize_core.specs.inside.Naming.{IsNamed};
 
 use layout_plan::{Part, Placed, Planned};
 use mbr_table::Slot;

@@ -1,12 +1,10 @@
 //! Copies from one disk in memory to another.
 ghost use Rattle.std.specs.Prelude.{◌≡◌, ◌*◌, ◌%◌, ◌<◌, ◌≤◌, length, IfOk};
-ghost use Rattle.std.specs.List.{list_any};
-ghost use Rattle.mbr_table.specs.Slot.{holds_extended};
 
 use super::*;
 use disk_base::{Blocks, DeviceFault, Disk, MemDisk, MemLimits, Mode};
 use layout_plan::NoPlan;
-use mbr_table::{MbrFault, Slot, mbr_sector, read_mbr};
+use mbr_table::{Slot, mbr_sector};
 use std::alloc::{AllocError, Global};
 use std::test::Fail;
 
@@ -50,9 +48,7 @@ const TWO: [Slot; 4] = [
 #[derive(Clone, Copy, Debug, PartialEq, Eq)]
 enum Outcome {
     Copied { placed: usize },
-    TooLarge,
-    NoTable(MbrFault),
-    Extended,
+    Unready(Unready),
     Refused(MbrRefused),
     Fault(DeviceFault),
 }
@@ -105,29 +101,15 @@ fn target(alloc: Global, sectors: u16, failing: &[u64]) -> Result<MemDisk, Alloc
     )
 }
 
-fn has_extended(slots: &[Slot; 4]) -> bool
-    ensures { result ≡ list_any holds_extended slots.now }
-{
-    slots
-        .iter()
-        .any(|slot| slot.is_used() && slot.is_extended())
-}
-
 fn prepared<S: Blocks>(alloc: Global, source: &mut S, sectors: u64) -> Result<Ready, Outcome>
     ensures from { IfOk result (λ ready. ready.source_sectors ≡ S.size source.new) }
     ensures to { IfOk result (λ ready. ready.target_sectors ≡ sectors) }
 {
-    if source.sectors() > 65535 {
-        return Err(Outcome::TooLarge);
-    }
-    let mbr = match read_mbr(alloc, source) {
-        Ok(mbr) => mbr,
-        Err(fault) => return Err(Outcome::NoTable(fault)),
+    let table = match judge(source) {
+        Ok(table) => table,
+        Err(unready) => return Err(Outcome::Unready(unready)),
     };
-    if has_extended(mbr.slots()) {
-        return Err(Outcome::Extended);
-    }
-    match prepare_mbr(alloc, source, &mbr, sectors) {
+    match prepare_mbr(alloc, &table, sectors) {
         Ok(ready) => Ok(ready),
         Err(refused) => Err(Outcome::Refused(refused)),
     }
@@ -324,7 +306,6 @@ fn names_each_refusal(rt: HostRuntime) -> Result<(), Fail> {
             MbrRefused::NoPlan(NoPlan::TooSmall { sectors: 1 }),
             "TooSmall sectors=1",
         ),
-        (MbrRefused::Device, "Device"),
         (MbrRefused::Memory, "Memory"),
     ];
     for (refused, text) in cases {

@@ -7,7 +7,8 @@ use Rattle.std.proofs.Common.{◌≡◌, ℕ, ◌+◌, ◌-◌, ◌*◌, ◌/◌
 use Rattle.disk_base.specs.Image.{with_bytes, sector, AgreesOutside}
 use Rattle.disk_base.proofs.Images.{agrees_refl, bytes_outside, agrees_with_bytes, length-bytes_at, sector_written, sector_before, sector_behind, sector_of_range}
 use Rattle.run_copy.specs.declared.transfer.Transfer.{Transfer}
-use Rattle.run_copy.specs.Copies.{all_zero, piece_of, is_left_out, due, put_of, IsOutside, IsCopied, AreCopied, OnlyWithin, WriteApart}
+use Rattle.run_copy.specs.Copies.{all_zero, piece_of, is_left_out, due, IsOutside, IsCopied, AreCopied, OnlyWithin, WriteApart}
+use Rattle.run_copy.specs.inside.Puts.{put_of}
 
 both_of : (a b : Bool) → (a && b) ≡ true → (a ≡ true) × (b ≡ true)
 both_of true b is = (refl, is)

@@ -2,7 +2,7 @@
 use Rattle.std.specs.Prelude.{◌≡◌, ℕ, ◌+◌, ◌-◌, ◌*◌, ◌/◌, ◌^◌, ◌<◌, ◌≤◌, ◌⊎◌, ◌==◌, ◌&&◌, Bool, if◌then◌else◌, min, List, length, slice_index_or, IsTrue}
 use Rattle.std.specs.List.{list_all}
 use Rattle.disk_base.specs.declared.device.Blocks.{Ghosts as BlocksGhosts}
-use Rattle.disk_base.specs.Image.{bytes_at, with_bytes, sector, AgreesOutside}
+use Rattle.disk_base.specs.Image.{bytes_at, sector, AgreesOutside}
 use Rattle.run_copy.specs.declared.transfer.Transfer.{Transfer}
 
 -- each byte is zero
@@ -67,13 +67,3 @@ pub record IsBetween (source_sectors target_sectors : ℕ) (t : Transfer) : Type
   pub few_target : target_sectors ≤ 2 ^ 31
   pub source : t.from + t.count ≤ source_sectors
   pub target : t.to + t.count ≤ target_sectors
-
--- the disk after a piece was put to sector `at`, or left out
-abbrev pub put_of : Bool → ℕ → List ℕ → List ℕ → List ℕ
-put_of sparse at piece image = if sparse && all_zero piece then image else with_bytes image (512 * at) piece
-
--- the piece of that number was put to its place
-abbrev pub PutNext : {S T : Type 0} → BlocksGhosts S → S → BlocksGhosts T → T → T → Transfer → ℕ → Type 0
-PutNext s source t target target' transfer j =
-    IsTrue s.tells → IsTrue t.tells
-    → t.image target' ≡ put_of transfer.sparse (transfer.to + 2048 * j) (piece_of (s.image source) transfer j) (t.image target)

@@ -5,7 +5,8 @@ ghost use Rattle.disk_base.specs.Faults.{Rose};
 ghost use Rattle.disk_base.specs.Image.{AgreesOutside};
 ghost use Rattle.disk_base.specs.Log.{IsWritable};
 ghost use Rattle.disk_base.specs.Stops.{Follows};
-ghost use Rattle.run_copy.specs.Copies.{AllCopied, Copied, IsBetween, OnlyIn, OnlyWithin, PutNext, WriteApart, all_zero, put_of};
+ghost use Rattle.run_copy.specs.Copies.{AllCopied, Copied, IsBetween, OnlyIn, OnlyWithin, WriteApart, all_zero};
+ghost use Rattle.run_copy.specs.inside.Puts.{PutNext, put_of};
 
 use crate::transfer::Transfer;
 use disk_base::{Blocks, DeviceFault, Disk, Failed, SECTOR};

@@ -6,8 +6,8 @@ use Rattle.run_end.specs.declared.end.End.{End}
 use Rattle.run_end.specs.declared.end.End.TheVariants.{Done, Refused, Failed}
 use Rattle.run_end.specs.declared.end.Failing.TheVariants.{Device, Printing}
 use Rattle.run_end.specs.declared.end.Refusal.{Refusal}
-use Rattle.run_end.specs.declared.end.Refusal.TheVariants.{NotYet, Memory}
-use Rattle.run_end.specs.Ending.{IsDecided, IsDue, IsLawful, IsToldFor, MayPass, Meaning, status_of, unserved}
+use Rattle.run_end.specs.declared.end.Refusal.TheVariants.{Memory}
+use Rattle.run_end.specs.Ending.{IsDecided, IsDue, IsLawful, IsToldFor, MayPass, Meaning, refusing, status_of}
 use Rattle.run_end.specs.Ended.{Ended, World}
 use Rattle.disk_base.proofs.Moments.{adds_here, leaves_only}
 use Rattle.disk_base.proofs.Uses.{asked_of}
@@ -44,8 +44,9 @@ told_for m old new (Failed failing) end' ended same = rw same ended
 told_for m old new (Refused refusal) end' ended for = elim for [ inl same ↦ rw same ended | inr memory ↦ rw memory (memory_for m old new refusal ended) ]
 
 -- nothing was called
-pub uncalled : (world : World) → (IsTrue world.target.tells_stops → AreOf world.target.image world.target.stops) → Ended unserved world world (Refused NotYet)
-uncalled world are = record {
+pub uncalled : (world : World) (refusal : Refusal) → (IsTrue world.target.tells_stops → AreOf world.target.image world.target.stops)
+    → Ended (refusing refusal) world world (Refused refusal)
+uncalled world refusal are = record {
   cause = tt;
   attached = (tt, tt);
   source = λ tells. record { image = refl; log = inl refl };
@@ -53,14 +54,14 @@ uncalled world are = record {
   due = λ tells. inr refl;
   left = λ tells. record { image = refl; log = inl refl };
   moments = λ stops disks settled.
-      let May : List ℕ → Type 0 = MayPass unserved world.target.image in
+      let May : List ℕ → Type 0 = MayPass (refusing refusal) world.target.image in
       leaves_only world.target.image _ _ May (are stops) settled (inl refl) (adds_here world.target.stops May);
   settled = λ stops before. before;
   unprinted = λ tells. refl;
   printed = λ tells disks. refl;
 }
 
-pub unserved_is_lawful : IsLawful unserved
-unserved_is_lawful None other a b = absurd a
-unserved_is_lawful (Some one) None a b = absurd b
-unserved_is_lawful (Some one) (Some other) a b = rw (a, b) refl
+pub refusing_is_lawful : (refusal : Refusal) → IsLawful (refusing refusal)
+refusing_is_lawful refusal None other a b = absurd a
+refusing_is_lawful refusal (Some one) None a b = absurd b
+refusing_is_lawful refusal (Some one) (Some other) a b = rw (a, b) refl

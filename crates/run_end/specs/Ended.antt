@@ -7,7 +7,7 @@ use Rattle.disk_base.specs.Devices.{AskedOnce, Held, Stream, Untouched, Use, hel
 use Rattle.disk_base.specs.Faults.{Rose}
 use Rattle.disk_base.specs.Stops.{IsSettled, LeavesOnly}
 use Rattle.run_end.specs.declared.end.End.{End}
-use Rattle.run_end.specs.Ending.{Attached, Cause, IsDue, Leaves, MayPass, Meaning, Prints, Settled, Unprinted}
+use Rattle.run_end.specs.Ending.{Attached, Cause, IsDue, EndLeaves, MayPass, Meaning, Prints, Settled, Unprinted}
 
 -- the disks of a job and standard output
 pub record World : Type 1 where
@@ -34,7 +34,7 @@ pub record Ended (m : Meaning) (old new : World) (end : End) : Type 0 where
   pub source : IsTrue old.source.tells → Untouched m.source old.source new.source
   pub asked : IsTrue old.target.tells → AskedOnce m.target old.target.log new.target.log
   pub due : TellsDisks m old → IsDue m end
-  pub left : TellsDisks m old → Leaves m old.target new.target end
+  pub left : TellsDisks m old → EndLeaves m old.target new.target end
   -- a stop at any moment of the run
   pub moments : IsTrue old.target.tells_stops → TellsDisks m old → IsSettled old.target.image old.target.stops
       → LeavesOnly (MayPass m old.target.image) old.target.stops new.target.stops

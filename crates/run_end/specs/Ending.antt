@@ -4,7 +4,7 @@ use Rattle.disk_base.specs.declared.device.DeviceFault.{DeviceFault}
 use Rattle.disk_base.specs.declared.device.DeviceFault.TheVariants as devices
 use Rattle.disk_base.specs.declared.device.Mode.{Mode}
 use Rattle.run_end.specs.declared.end.Refusal.{Refusal}
-use Rattle.run_end.specs.declared.end.Refusal.TheVariants.{NotYet, Source, Plan, Memory}
+use Rattle.run_end.specs.declared.end.Refusal.TheVariants.{Usage, NotYet, Source, Plan, Memory}
 use Rattle.run_end.specs.declared.end.Failing.TheVariants.{Device, Printing}
 use Rattle.run_end.specs.declared.end.End.{End}
 use Rattle.run_end.specs.declared.end.End.TheVariants.{Done, Refused, Failed}
@@ -28,12 +28,12 @@ pub record Meaning : Type 1 where
   -- what is printed before the first write, and behind the last one
   pub lines : List ℕ → List ℕ → Type 0
 
--- what isn't served yet: no disk is used
-abbrev pub unserved : Meaning
-unserved = record {
+-- what is refused by its words alone: no disk is used
+abbrev pub refusing : Refusal → Meaning
+refusing refusal = record {
   source = None;
   target = None;
-  refused = λ refusal. refusal ≡ NotYet;
+  refused = λ other. other ≡ refusal;
   work = ⊥;
   finished = λ image. ⊥;
   cut = λ fault image. ⊥;
@@ -42,6 +42,7 @@ unserved = record {
 }
 
 abbrev pub refusal_status : Refusal → ℕ
+refusal_status (Usage usage) = 1
 refusal_status (Source fault) = 2
 refusal_status (Plan fault) = 4
 refusal_status Memory = 7
@@ -62,11 +63,11 @@ IsDue m (Failed (Device fault)) = Unit {0}
 IsDue m (Failed Printing) = m.work
 
 -- what an end leaves of the target
-abbrev pub Leaves : Meaning → Held → Held → End → Type 0
-Leaves m old new Done = m.finished new.image
-Leaves m old new (Refused refusal) = Untouched m.target old new
-Leaves m old new (Failed (Device fault)) = Untouched m.target old new ⊎ m.cut fault new.image
-Leaves m old new (Failed Printing) = Untouched m.target old new ⊎ m.finished new.image
+abbrev pub EndLeaves : Meaning → Held → Held → End → Type 0
+EndLeaves m old new Done = m.finished new.image
+EndLeaves m old new (Refused refusal) = Untouched m.target old new
+EndLeaves m old new (Failed (Device fault)) = Untouched m.target old new ⊎ m.cut fault new.image
+EndLeaves m old new (Failed Printing) = Untouched m.target old new ⊎ m.finished new.image
 
 -- what a stop at any moment may leave of the target
 abbrev pub MayPass : Meaning → List ℕ → List ℕ → Type 0

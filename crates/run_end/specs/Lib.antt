@@ -1,3 +1,4 @@
 pub mod Ending
 pub mod Ended
 pub mod Text
+pub mod Texts

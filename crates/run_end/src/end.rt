@@ -4,6 +4,8 @@ ghost use Rattle.run_end.specs.Ending.{refusal_status, status_of};
 
 use disk_base::DeviceFault;
 use layout_plan::NoPlan;
+use std::fmt;
+use words::Usage;
 
 /// Why a disk is no source.
 #[derive(Clone, Copy, Debug, PartialEq, Eq)]
@@ -18,9 +20,29 @@ pub enum SourceFault {
     Overlap { a: u32, b: u32 },
 }
 
+impl fmt::Display for SourceFault {
+    ghost use Rattle.std.specs.Prelude.{Some};
+    ghost use Rattle.run_end.specs.Texts.{source_text};
+
+    ghost output = { λ fault. Some (source_text fault) };
+
+    fn fmt<W: fmt::Write>(&self, f: &mut fmt::Formatter<W>) -> fmt::Result {
+        match *self {
+            SourceFault::TooLarge { sectors } => write!(f, "TooLarge sectors={sectors}"),
+            SourceFault::NoSignature => f.write_str("NoSignature"),
+            SourceFault::Entry { number } => write!(f, "Entry number={number}"),
+            SourceFault::Overlap { a, b } => write!(f, "Overlap a={a} b={b}"),
+        }
+    }
+}
+
+impl std::error::Error for SourceFault {}
+
 /// Why nothing was written.
 #[derive(Clone, Copy, Debug, PartialEq, Eq)]
 pub enum Refusal {
+    /// The words are no job.
+    Usage(Usage),
     /// What is asked for isn't served yet.
     NotYet,
     /// The source isn't valid.
@@ -55,6 +77,7 @@ fn refusal_status(refusal: Refusal) -> u8
     ensures { result ≡ refusal_status refusal }
 {
     match refusal {
+        Refusal::Usage(_) => 1,
         Refusal::Source(_) => 2,
         Refusal::Plan(_) => 4,
         Refusal::Memory => 7,
@@ -62,7 +85,7 @@ fn refusal_status(refusal: Refusal) -> u8
     }
 }
 
-/// The status of an end: 0 where the work is done, 2 for a source that isn't valid, 4 where there is no plan,
+/// The status of an end: 0 where the work is done, 1 for words that are no job, 2 for a source that isn't valid, 4 where there is no plan,
 /// 5 and 6 for a source or target that failed, 7 for want of memory, 8 for standard output that failed, and 9
 /// for what isn't served yet.
 pub fn status_of(end: End) -> u8

@@ -1,7 +1,8 @@
 // What of a run lies outside other runs.
 ghost use Rattle.std.specs.Prelude.{◌≡◌, ℕ, ◌+◌, ◌^◌, ◌<◌, ◌≤◌, ◌↔◌, ◌⊎◌, All, OnOk, OnErr, IfOk, IfErr, length, take, drop, vec_len};
-ghost use Rattle.run_set.specs.Runs.{AreRuns, Holds, IsRun, IsWithin, end_of};
-ghost use Rattle.run_set.specs.Joins.{LiesBelow};
+ghost use Rattle.run_set.specs.Runs.{AreRuns, Holds, IsRun, past_of};
+ghost use Rattle.run_set.specs.inside.Joins.{LiesBelow};
+ghost use Rattle.run_set.specs.inside.Cuts.{KeepsOf};
 
 use crate::run::Run;
 use std::alloc::AllocError;
@@ -34,11 +35,11 @@ pub(crate) fn cut(
     requires below { LiesBelow run.start out.old.items }
     requires holes { AreRuns holes.now }
     requires first { first ≤ length holes.now }
-    requires past { All (λ hole. end_of hole ≤ run.start) (take first holes.now) }
+    requires past { All (λ hole. past_of hole ≤ run.start) (take first holes.now) }
     ensures first { IfOk result (λ past. past ≤ length holes.now) }
-    ensures past { IfOk result (λ past. All (λ hole. end_of hole ≤ end_of run) (take past holes.now)) }
-    ensures below { OnOk result (LiesBelow (end_of run + 1) out.new.items) }
-    ensures kept { OnOk result ((x : ℕ) → Holds out.new.items x ↔ (Holds out.old.items x ⊎ (IsWithin run.start run.count x × (Holds holes.now x → ⊥)))) }
+    ensures past { IfOk result (λ past. All (λ hole. past_of hole ≤ past_of run) (take past holes.now)) }
+    ensures below { OnOk result (LiesBelow (past_of run + 1) out.new.items) }
+    ensures kept { OnOk result (KeepsOf run holes.now out.old.items out.new.items) }
 {
     let end = run.end();
     let mut from = run.start;

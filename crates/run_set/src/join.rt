@@ -1,7 +1,7 @@
 // How the numbers of an `add` go in among runs that rise.
 ghost use Rattle.std.specs.Prelude.{◌≡◌, ◌+◌, ◌^◌, ◌<◌, ◌≤◌, ◌++◌, ◌∷◌, All, OnOk, OnErr, IfOk, IfErr, length, take, drop, vec_len};
-ghost use Rattle.run_set.specs.Runs.{AreRuns, IsLeastCommon, end_of};
-ghost use Rattle.run_set.specs.Joins.{Joins};
+ghost use Rattle.run_set.specs.Runs.{AreRuns, IsLeastCommon, past_of};
+ghost use Rattle.run_set.specs.inside.Joins.{Joins};
 
 use crate::fault::RunFault;
 use crate::run::Run;
@@ -19,7 +19,7 @@ pub(crate) fn join(rest: &[Run], start: u64, n: u64) -> Result<Joined, u64>
     requires some { 1 ≤ n }
     requires end { start + n ≤ 2 ^ 63 }
     requires set { AreRuns rest.now }
-    requires place { All (λ run. start ≤ end_of run) rest.now }
+    requires place { All (λ run. start ≤ past_of run) rest.now }
     ensures joins { IfOk result (λ join. Joins rest.now start n join.run join.replaced) }
     ensures few { IfOk result (λ join. join.replaced ≤ 2) }
     ensures common { IfErr result (IsLeastCommon rest.now start n) }
@@ -44,7 +44,7 @@ fn join_later(later: &[Run], start: u64, n: u64) -> Result<Joined, u64>
     requires some { 1 ≤ n }
     requires end { start + n ≤ 2 ^ 63 }
     requires set { AreRuns later.now }
-    requires place { All (λ run. start < end_of run) later.now }
+    requires place { All (λ run. start < past_of run) later.now }
     ensures joins { IfOk result (λ join. Joins later.now start n join.run join.replaced) }
     ensures few { IfOk result (λ join. join.replaced ≤ 1) }
     ensures starts { IfOk result (λ join. join.run.start ≡ start) }

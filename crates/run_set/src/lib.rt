@@ -22,7 +22,7 @@ mod zero;
 
 ghost use Rattle.std.specs.Prelude.{◌≡◌, ◌+◌, ◌^◌, ◌<◌, ◌≤◌, ◌↔◌, ◌⊎◌, ℕ, [], All, AllPairs, IsTrue, OnOk, OnErr, IfOk, IfErr, length, sum_by};
 ghost use Rattle.std.specs.List.{HoldsAt};
-ghost use Rattle.run_set.specs.Runs.{IsWithin, IsRun, EndsBelow, Holds, HasFault, IsFree, AreRuns};
+ghost use Rattle.run_set.specs.Runs.{IsInRange, IsRun, EndsBelow, Holds, HasFault, IsFree, AreRuns};
 
 pub use bits::Bits;
 use cut::cut;
@@ -73,7 +73,7 @@ impl Runs {
         requires some { 1 ≤ n }
         requires end { start + n ≤ 2 ^ 63 }
 
-        ensures added { OnOk result ((x : ℕ) → Holds self.new x ↔ (Holds self.old x ⊎ IsWithin start n x)) }
+        ensures added { OnOk result ((x : ℕ) → Holds self.new x ↔ (Holds self.old x ⊎ IsInRange start n x)) }
         ensures free { OnOk result (IsFree self.old start n) }
 
         ensures fault { IfErr result (HasFault self.old start n) }

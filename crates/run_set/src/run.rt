@@ -1,6 +1,6 @@
 // One run, and the search for the place of a number among runs that rise.
 ghost use Rattle.std.specs.Prelude.{◌≡◌, ◌+◌, ◌^◌, ◌<◌, ◌≤◌, ◌↔◌, IsTrue, All, length, take, drop};
-ghost use Rattle.run_set.specs.Runs.{IsWithin, AreRuns, IsRun, end_of};
+ghost use Rattle.run_set.specs.Runs.{IsInRange, AreRuns, IsRun, past_of};
 
 /// The numbers from a first one on: `count` of them.
 #[derive(Clone, Copy)]
@@ -12,20 +12,20 @@ pub struct Run {
 impl Run {
     pub(crate) fn end(self) -> u64
         requires { IsRun self }
-        ensures { result ≡ end_of self }
+        ensures { result ≡ past_of self }
     {
         self.start + self.count
     }
 
     // Whether the run ends strictly below the number; any two numbers make a run here.
     fn ends_below(&self, number: u64) -> bool
-        ensures { IsTrue result ↔ (end_of self.now < number) }
+        ensures { IsTrue result ↔ (past_of self.now < number) }
     {
         self.start < number && self.count < number - self.start
     }
 
     pub(crate) fn has(self, number: u64) -> bool
-        ensures { IsTrue result ↔ IsWithin self.start self.count number }
+        ensures { IsTrue result ↔ IsInRange self.start self.count number }
     {
         self.start <= number && number - self.start < self.count
     }
@@ -36,8 +36,8 @@ impl Run {
 pub(crate) fn place(runs: &[Run], number: u64) -> usize
     requires { AreRuns runs.now }
     ensures bound { result ≤ length runs.now }
-    ensures below { All (λ run. end_of run < number) (take result runs.now) }
-    ensures rest { All (λ run. number ≤ end_of run) (drop result runs.now) }
+    ensures below { All (λ run. past_of run < number) (take result runs.now) }
+    ensures rest { All (λ run. number ≤ past_of run) (drop result runs.now) }
 {
     if let Some(last) = runs.last() {
         if last.ends_below(number) {

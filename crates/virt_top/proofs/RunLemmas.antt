@@ -1,62 +1,111 @@
 -- From how a job ended to what a run says.
-use Rattle.std.proofs.Common.{◌≡◌, ℕ, List, length, sym, subst, refl, Bool, ◌&&◌, ◌==◌, true, false, IsTrue}
-use Rattle.std.proofs.lemmas.Bool.{eqb-true, false≢true}
-use Rattle.disk_base.specs.Faults.{Rose}
-use Rattle.run_end.specs.declared.end.End.{End}
-use Rattle.run_end.specs.declared.end.End.TheVariants.{Refused}
-use Rattle.run_end.specs.declared.end.Refusal.TheVariants.{NotYet}
-use Rattle.virt_top.specs.declared.words.Tool.{Tool}
-use Rattle.resize_core.specs.Copying.{copy_of}
+use Rattle.std.proofs.Common.{◌≡◌, ◌⊎◌, ℕ, List, sym, subst, refl, inl, inr, arith, Bool, true, false, IsTrue, Result, Ok, Err}
 use Rattle.disk_base.specs.Devices.{Stream}
+use Rattle.disk_base.specs.Faults.{Rose}
 use Rattle.disk_base.specs.Stops.{AreOf}
-use Rattle.run_end.specs.Ended.{Ended, World}
-use Rattle.run_end.specs.Ending.{IsDecided, IsLawful, IsToldFor, Meaning, status_of}
-use Rattle.virt_top.specs.Lines.{TellsLine}
-use Rattle.virt_top.specs.Ran.{IsRun, meaning_on}
-use Rattle.virt_top.specs.Words.{is_job, meaning_if, meaning_of, source_name, target_name, tool_of}
+use Rattle.words.specs.declared.job.Job.{Job}
+use Rattle.words.specs.declared.job.Job.TheVariants as jobs
+use Rattle.words.specs.declared.job.ResizeJob.{ResizeJob}
+use Rattle.words.specs.declared.usage.Usage.{Usage as WordsFault}
+use Rattle.words.specs.declared.usage.Usage.TheVariants as usages
+use Rattle.words.specs.JobOf.{IsToldOf, job_of}
+use Rattle.run_end.specs.declared.end.End.{End}
+use Rattle.run_end.specs.declared.end.End.TheVariants.{Done, Refused, Failed}
+use Rattle.run_end.specs.declared.end.Failing.TheVariants.{Device, Printing}
+use Rattle.disk_base.specs.declared.device.DeviceFault.TheVariants as devices
+use Rattle.run_end.specs.declared.end.Refusal.TheVariants.{NotYet, Usage as Misused, Memory}
+use Rattle.run_end.specs.Ended.{Ended, TellsDisks, World}
+use Rattle.run_end.specs.Ending.{IsDecided, IsLawful, IsToldFor, refusing, status_of}
+use Rattle.resize_core.specs.Copying.{copy_of}
 use Rattle.resize_core.proofs.CopyLaw.{copy_is_lawful}
-use Rattle.run_end.proofs.EndLemmas.{decided, told_for, uncalled, unserved_is_lawful}
-
-left_true : (x y : Bool) → (x && y) ≡ true → x ≡ true
-left_true true y both = refl
-left_true false y both = absurd (false≢true both)
-
--- a job has three words
-pub three_words : (words : List (List ℕ)) → is_job words ≡ true → length words ≡ 3
-three_words words job = eqb-true (length words) 3 (left_true (length words == 3) _ job)
+use Rattle.run_end.proofs.EndLemmas.{decided, refusing_is_lawful, told_for, uncalled}
+use Rattle.virt_top.specs.declared.tool.Tool.{Tool}
+use Rattle.virt_top.specs.Lines.{TellsLine}
+use Rattle.virt_top.specs.Ran.{WasRun, WasUnread, meaning_on}
+use Rattle.virt_top.specs.Words.{is_plain, meaning_by, resize_if, tool_named}
+use Rattle.virt_top.specs.inside.Acts.{refusal_of_usage}
 
 -- words that are no job
-pub ended_uncalled : (words : List (List ℕ)) (world : World) → (IsTrue world.target.tells_stops → AreOf world.target.image world.target.stops) → is_job words ≡ false
-    → Ended (meaning_on words world) world world (Refused NotYet)
-ended_uncalled words world are other =
-    let Is : Bool → Type 0 = λ b. Ended (meaning_if b words world.source.image world.target.image) world world (Refused NotYet) in
-    subst Is (sym other) (uncalled world are)
+no_job : (answer : Result Job WordsFault) (world : World) (usage : WordsFault) → (IsTrue world.target.tells_stops → AreOf world.target.image world.target.stops)
+    → answer ≡ Err usage → Ended (meaning_by answer world.source.image world.target.image) world world (Refused (Misused usage))
+no_job answer world usage are is =
+    let Is : Result Job WordsFault → Type 0 = λ one. Ended (meaning_by one world.source.image world.target.image) world world (Refused (Misused usage)) in
+    subst Is (sym is) (uncalled world (Misused usage) are)
 
--- words that name two disks to copy
-pub ended_copy : (words : List (List ℕ)) (source target : List ℕ) (old new : World) (end : End) → is_job words ≡ true → source ≡ source_name words → target ≡ target_name words
-    → Ended (copy_of source target old.source.image old.target.image) old new end → Ended (meaning_on words old) old new end
-ended_copy words source target old new end job is_source is_target ended =
-    let Is : Bool → Type 0 = λ b. Ended (meaning_if b words old.source.image old.target.image) old new end in
+-- what is answered to them, or that they took more memory than there was
+pub ended_misused : (answer : Result Job WordsFault) (world : World) (usage : WordsFault) → (IsTrue world.target.tells_stops → AreOf world.target.image world.target.stops)
+    → IsToldOf answer usage
+    → WasUnread world world (Refused (refusal_of_usage usage)) ⊎ Ended (meaning_by answer world.source.image world.target.image) world world (Refused (refusal_of_usage usage))
+ended_misused answer world usages.Memory are is = inl (uncalled world Memory are)
+ended_misused answer world usages.Tool are is = inr (no_job answer world usages.Tool are is)
+ended_misused answer world (usages.Unknown place) are is = inr (no_job answer world (usages.Unknown place) are is)
+ended_misused answer world (usages.Value place) are is = inr (no_job answer world (usages.Value place) are is)
+ended_misused answer world usages.Missing are is = inr (no_job answer world usages.Missing are is)
+ended_misused answer world (usages.Extra place) are is = inr (no_job answer world (usages.Extra place) are is)
+ended_misused answer world (usages.Excluded place) are is = inr (no_job answer world (usages.Excluded place) are is)
+ended_misused answer world (usages.Twice place) are is = inr (no_job answer world (usages.Twice place) are is)
+ended_misused answer world (usages.Size place) are is = inr (no_job answer world (usages.Size place) are is)
+ended_misused answer world usages.Same are is = inr (no_job answer world usages.Same are is)
+
+-- a job to resize, by whether it is plain
+pub resize_by : (job : ResizeJob) (plain : Bool) (old new : World) (end : End) → is_plain job ≡ plain → Ended (resize_if plain job old.source.image old.target.image) old new end
+    → Ended (resize_if (is_plain job) job old.source.image old.target.image) old new end
+resize_by job plain old new end is ended =
+    let Is : Bool → Type 0 = λ b. Ended (resize_if b job old.source.image old.target.image) old new end in
+    subst Is (sym is) ended
+
+-- a copy of the disks that the job names
+pub copied : (job : ResizeJob) (source target : List ℕ) (old new : World) (end : End) → source ≡ job.source → target ≡ job.target
+    → Ended (copy_of source target old.source.image old.target.image) old new end → Ended (resize_if true job old.source.image old.target.image) old new end
+copied job source target old new end is_source is_target ended =
     let From : List ℕ → Type 0 = λ name. Ended (copy_of name target old.source.image old.target.image) old new end in
-    let To : List ℕ → Type 0 = λ name. Ended (copy_of (source_name words) name old.source.image old.target.image) old new end in
-    subst Is (sym job) (subst To is_target (subst From is_source ended))
+    let To : List ℕ → Type 0 = λ name. Ended (copy_of job.source name old.source.image old.target.image) old new end in
+    subst To is_target (subst From is_source ended)
 
-lawful_if : (b : Bool) (words : List (List ℕ)) (source target : List ℕ) → IsLawful (meaning_if b words source target)
-lawful_if true words source target = copy_is_lawful (source_name words) (target_name words) source target
-lawful_if false words source target = unserved_is_lawful
+resize_is_lawful : (b : Bool) (job : ResizeJob) (source target : List ℕ) → IsLawful (resize_if b job source target)
+resize_is_lawful true job source target = copy_is_lawful job.source job.target source target
+resize_is_lawful false job source target = refusing_is_lawful NotYet
+
+lawful_by : (answer : Result Job WordsFault) (source target : List ℕ) → IsLawful (meaning_by answer source target)
+lawful_by (Err usage) source target = refusing_is_lawful (Misused usage)
+lawful_by (Ok (jobs.Resize job)) source target = resize_is_lawful (is_plain job) job source target
+lawful_by (Ok (jobs.Sparsify job)) source target = refusing_is_lawful NotYet
+
+-- what was told ended so
+told_by : (words : List (List ℕ)) (old new : World) (end end' : End) → WasUnread old new end ⊎ Ended (meaning_on words old) old new end → IsToldFor end end'
+    → WasUnread old new end' ⊎ Ended (meaning_on words old) old new end'
+told_by words old new end end' (inl unread) for = inl (told_for (refusing Memory) old new end end' unread for)
+told_by words old new end end' (inr ended) for = inr (told_for (meaning_on words old) old new end end' ended for)
+
+-- where the words took more memory than there was, that is the end
+unread_status : (old new : World) (end : End) → WasUnread old new end → status_of end ≡ 7
+unread_status old new Done unread = absurd (unread.due (tt, tt))
+unread_status old new (Refused refusal) unread = elim (unread.due (tt, tt)) [ inl memory ↦ rw memory refl | inr memory ↦ rw memory refl ]
+unread_status old new (Failed (Device devices.Source)) unread = absurd unread.cause.0
+unread_status old new (Failed (Device devices.Target)) unread = absurd unread.cause.0
+unread_status old new (Failed Printing) unread = absurd (unread.due (tt, tt))
+
+-- what is due comes, unless something fails
+decided_by : (words : List (List ℕ)) (old new : World) (end : End) → WasUnread old new end ⊎ Ended (meaning_on words old) old new end
+    → TellsDisks (meaning_on words old) old → IsDecided (meaning_on words old) (status_of end)
+decided_by words old new end (inl unread) disks =
+    let is : status_of end ≡ 7 = unread_status old new end unread in
+    λ due is_due. inr (inl (omega (arith, is), omega (arith, is)))
+decided_by words old new end (inr ended) disks =
+    decided (meaning_on words old) end (lawful_by (job_of words) old.source.image old.target.image) (ended.due disks)
 
 -- what was told is how the run ended
 pub ran_of : (words : List (List ℕ)) (old new : World) (err err' : Stream) (end end' : End) (tool : Tool) (status : ℕ)
-    → Ended (meaning_on words old) old new end → IsToldFor end end' → tool ≡ tool_of words → (IsTrue err.tells → TellsLine tool (Rose err.faults err'.faults) err.text err'.text end')
-    → status ≡ status_of end' → IsRun words old new err err' status
+    → WasUnread old new end ⊎ Ended (meaning_on words old) old new end → IsToldFor end end' → tool ≡ tool_named words
+    → (IsTrue err.tells → TellsLine tool (Rose err.faults err'.faults) err.text err'.text end') → status ≡ status_of end' → WasRun words old new err err' status
 ran_of words old new err err' end end' tool status ended for is_tool tells is =
-    let last = told_for (meaning_on words old) old new end end' ended for in
+    let last = told_by words old new end end' ended for in
     let Decided : ℕ → Type 0 = λ n. IsDecided (meaning_on words old) n in
     let Told_by : Tool → Type 0 = λ one. TellsLine one (Rose err.faults err'.faults) err.text err'.text end' in
     record {
       end = end';
       is_status = is;
       ended = last;
-      decided = λ disks. subst Decided (sym is) (decided (meaning_on words old) end' (lawful_if (is_job words) words old.source.image old.target.image) (last.due disks));
+      decided = λ disks. subst Decided (sym is) (decided_by words old new end' last disks);
       reported = λ e. subst Told_by is_tool (tells e);
     }

@@ -2,3 +2,4 @@ pub mod FileDisk
 pub mod Lines
 pub mod Ran
 pub mod Words
+pub mod inside

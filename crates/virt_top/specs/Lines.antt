@@ -1,43 +1,21 @@
 -- What is told on standard error, byte by byte.
-use Rattle.std.specs.Prelude.{◌≡◌, ℕ, List, [], ◌∷◌, ◌++◌, codes}
+use Rattle.std.specs.Prelude.{◌≡◌, ℕ, List, [], ◌∷◌, ◌++◌, codes, IsTrue}
+use Rattle.disk_base.specs.declared.output.Sink.{Ghosts as SinkGhosts}
 use Rattle.disk_base.specs.Devices.{Tells}
+use Rattle.disk_base.specs.Faults.{Rose}
 use Rattle.run_end.specs.Text.{joined}
 use Rattle.run_end.specs.declared.end.End.{End}
 use Rattle.run_end.specs.declared.end.End.TheVariants.{Done, Refused, Failed}
-use Rattle.std.specs.Fmt.{decimal}
-use Rattle.layout_plan.specs.declared.fault.NoPlan.{NoPlan}
-use Rattle.layout_plan.specs.declared.fault.NoPlan.TheVariants.{TooSmall, TooLarge as TargetTooLarge, NoSuchPart, NamedTwice, Extended as ExtendedNamed, Empty, WouldCut, DoesNotFit, NoSurplus, NoDeficit, Memory as NoMemory}
+use Rattle.layout_plan.specs.Texts.{no_plan_text}
+use Rattle.run_end.specs.Texts.{source_text}
+use Rattle.words.specs.Texts.{usage_text}
 use Rattle.disk_base.specs.declared.device.DeviceFault.TheVariants as devices
-use Rattle.virt_top.specs.declared.words.Tool.{Tool}
-use Rattle.virt_top.specs.declared.words.Tool.TheVariants.{Resize, Sparsify, Unnamed}
-use Rattle.run_end.specs.declared.end.SourceFault.{SourceFault}
-use Rattle.run_end.specs.declared.end.SourceFault.TheVariants.{TooLarge, NoSignature, Entry, Overlap}
+use Rattle.virt_top.specs.declared.tool.Tool.{Tool}
+use Rattle.virt_top.specs.declared.tool.Tool.TheVariants.{Resize, Sparsify, Unnamed}
 use Rattle.run_end.specs.declared.end.Refusal.{Refusal}
-use Rattle.run_end.specs.declared.end.Refusal.TheVariants.{NotYet, Source, Plan as Unplanned, Memory as OutOfMemory}
+use Rattle.run_end.specs.declared.end.Refusal.TheVariants.{Usage, NotYet, Source, Plan as Unplanned, Memory as OutOfMemory}
 use Rattle.run_end.specs.declared.end.Failing.TheVariants.{Device, Printing}
 use Rattle.run_end.specs.declared.end.Failing.{Failing}
-
--- the line for a disk that is no source
-abbrev pub source_text : SourceFault → List ℕ
-source_text (TooLarge sectors) = joined (codes ": source: TooLarge sectors=" ∷ decimal sectors ∷ codes "\n" ∷ [])
-source_text NoSignature = codes ": source: NoSignature\n"
-source_text (Entry number) = joined (codes ": source: Entry number=" ∷ decimal number ∷ codes "\n" ∷ [])
-source_text (Overlap a b) = joined (codes ": source: Overlap a=" ∷ decimal a ∷ codes " b=" ∷ decimal b ∷ codes "\n" ∷ [])
-
--- the line where there is no plan
-abbrev pub no_plan_text : NoPlan → List ℕ
-no_plan_text (TooSmall sectors) = joined (codes ": no plan: TooSmall sectors=" ∷ decimal sectors ∷ codes "\n" ∷ [])
-no_plan_text (TargetTooLarge sectors) = joined (codes ": no plan: TooLarge sectors=" ∷ decimal sectors ∷ codes "\n" ∷ [])
-no_plan_text (NoSuchPart place) = joined (codes ": no plan: NoSuchPart place=" ∷ decimal place ∷ codes "\n" ∷ [])
-no_plan_text (NamedTwice place) = joined (codes ": no plan: NamedTwice place=" ∷ decimal place ∷ codes "\n" ∷ [])
-no_plan_text (ExtendedNamed place) = joined (codes ": no plan: Extended place=" ∷ decimal place ∷ codes "\n" ∷ [])
-no_plan_text (Empty part) = joined (codes ": no plan: Empty part=" ∷ decimal part ∷ codes "\n" ∷ [])
-no_plan_text (WouldCut part content asked) =
-    joined (codes ": no plan: WouldCut part=" ∷ decimal part ∷ codes " content=" ∷ decimal content ∷ codes " wanted=" ∷ decimal asked ∷ codes "\n" ∷ [])
-no_plan_text (DoesNotFit last limit) = joined (codes ": no plan: DoesNotFit end=" ∷ decimal last ∷ codes " limit=" ∷ decimal limit ∷ codes "\n" ∷ [])
-no_plan_text (NoSurplus limit) = joined (codes ": no plan: NoSurplus limit=" ∷ decimal limit ∷ codes "\n" ∷ [])
-no_plan_text (NoDeficit last) = joined (codes ": no plan: NoDeficit end=" ∷ decimal last ∷ codes "\n" ∷ [])
-no_plan_text NoMemory = codes ": no plan: Memory\n"
 
 -- what a tool calls itself; words that name none are told by `virt`
 abbrev pub tool_text : Tool → List ℕ
@@ -47,9 +25,10 @@ tool_text Unnamed = codes "virt"
 
 -- why nothing was written
 abbrev pub refusal_text : Refusal → List ℕ
+refusal_text (Usage usage) = joined (codes ": usage: " ∷ usage_text usage ∷ codes "\n" ∷ [])
 refusal_text NotYet = codes ": not yet\n"
-refusal_text (Source fault) = source_text fault
-refusal_text (Unplanned fault) = no_plan_text fault
+refusal_text (Source fault) = joined (codes ": source: " ∷ source_text fault ∷ codes "\n" ∷ [])
+refusal_text (Unplanned fault) = joined (codes ": no plan: " ∷ no_plan_text fault ∷ codes "\n" ∷ [])
 refusal_text OutOfMemory = codes ": memory\n"
 
 -- what failed
@@ -63,3 +42,7 @@ abbrev pub TellsLine : Tool → Type 0 → List ℕ → List ℕ → End → Typ
 TellsLine tool rose old new Done = new ≡ old
 TellsLine tool rose old new (Refused refusal) = Tells rose (tool_text tool ++ refusal_text refusal) old new
 TellsLine tool rose old new (Failed failing) = Tells rose (tool_text tool ++ failing_text failing) old new
+
+-- the same on a stream that a call was lent
+abbrev pub TellsEnd : {E : Type 0} → Tool → SinkGhosts E → E → E → End → Type 0
+TellsEnd tool e err err' end = IsTrue e.tells_text → TellsLine tool (Rose (e.sink_faults err) (e.sink_faults err')) (e.text err) (e.text err') end

@@ -1,43 +1,55 @@
--- The words of the command line that are served.
-use Rattle.std.specs.Prelude.{◌≡◌, ◌≢◌, ℕ, List, [], length, slice_index, slice_index_or, codes, Bool, ◌&&◌, ◌==◌, nat_lt, not, true, false, Option, Some, None, if◌then◌else◌}
+-- What the words mean.
+use Rattle.std.specs.Prelude.{ℕ, List, [], length, slice_index_or, codes, Bool, ◌&&◌, ◌==◌, not, true, false, Result, Ok, Err, if◌then◌else◌}
 use Rattle.std.specs.Str.{bytes_eq}
-use Rattle.virt_top.specs.declared.words.Tool.{Tool}
-use Rattle.virt_top.specs.declared.words.Tool.TheVariants.{Resize, Sparsify, Unnamed}
+use Rattle.words.specs.declared.job.Job.{Job}
+use Rattle.words.specs.declared.job.Job.TheVariants as jobs
+use Rattle.words.specs.declared.job.ResizeJob.{ResizeJob}
+use Rattle.words.specs.declared.job.Unknown.{Unknown}
+use Rattle.words.specs.declared.job.Unknown.TheVariants.{Ignore, Warn, Error}
+use Rattle.words.specs.declared.usage.Usage.{Usage as WordsFault}
+use Rattle.words.specs.JobOf.{job_of}
+use Rattle.virt_top.specs.declared.tool.Tool.{Tool}
+use Rattle.virt_top.specs.declared.tool.Tool.TheVariants.{Resize, Sparsify, Unnamed}
 use Rattle.resize_core.specs.Copying.{copy_of}
-use Rattle.run_end.specs.Ending.{Meaning, unserved}
-
--- a word that names a disk: not an option, which begins with `-` and goes on
-abbrev pub is_option : List ℕ → Bool
-is_option word = nat_lt 1 (length word) && (slice_index word 0 == 45)
+use Rattle.run_end.specs.declared.end.Refusal.TheVariants.{NotYet, Usage}
+use Rattle.run_end.specs.Ending.{Meaning, refusing}
 
 -- the word of that place, or nothing
 abbrev pub word_at : List (List ℕ) → ℕ → List ℕ
 word_at words place = slice_index_or words place []
 
 -- the tool that the first word names
-abbrev pub tool_of : List (List ℕ) → Tool
-tool_of words =
+abbrev pub tool_named : List (List ℕ) → Tool
+tool_named words =
     if bytes_eq (word_at words 0) (codes "virt-resize") then Resize
     else if bytes_eq (word_at words 0) (codes "virt-sparsify") then Sparsify
     else Unnamed
 
--- three words that are virt-resize and the names of two disks
-abbrev pub are_names : List ℕ → List ℕ → List ℕ → Bool
-are_names tool source target = bytes_eq tool (codes "virt-resize") && not (is_option source) && not (is_option target) && not (bytes_eq source target)
+abbrev pub warns : Unknown → Bool
+warns Ignore = false
+warns Warn = true
+warns Error = false
 
-abbrev pub is_job : List (List ℕ) → Bool
-is_job words = (length words == 3) && are_names (word_at words 0) (word_at words 1) (word_at words 2)
+-- a job without wishes and options: what is served
+abbrev pub is_plain : ResizeJob → Bool
+is_plain job =
+    (length job.wishes == 0) && (length job.lvs == 0) && (job.layout.align == 128) && not job.layout.always && job.layout.extra
+    && job.boot && job.grow && warns job.unknown && job.sparse && not job.dry && not job.quiet
 
-abbrev pub source_name : List (List ℕ) → List ℕ
-source_name words = word_at words 1
+abbrev pub resize_if : Bool → ResizeJob → List ℕ → List ℕ → Meaning
+resize_if true job source target = copy_of job.source job.target source target
+resize_if false job source target = refusing NotYet
 
-abbrev pub target_name : List (List ℕ) → List ℕ
-target_name words = word_at words 2
+-- what the answer to the words means, on disks that hold this
+abbrev pub meaning_by : Result Job WordsFault → List ℕ → List ℕ → Meaning
+meaning_by (Err usage) source target = refusing (Usage usage)
+meaning_by (Ok (jobs.Resize job)) source target = resize_if (is_plain job) job source target
+meaning_by (Ok (jobs.Sparsify job)) source target = refusing NotYet
 
--- what the words mean, on disks that hold this
-abbrev pub meaning_if : Bool → List (List ℕ) → List ℕ → List ℕ → Meaning
-meaning_if true words source target = copy_of (source_name words) (target_name words) source target
-meaning_if false words source target = unserved
+-- whether that answer is a job that calls disks
+abbrev pub is_called : Result Job WordsFault → Bool
+is_called (Ok (jobs.Resize job)) = is_plain job
+is_called answer = false
 
 abbrev pub meaning_of : List (List ℕ) → List ℕ → List ℕ → Meaning
-meaning_of words source target = meaning_if (is_job words) words source target
+meaning_of words source target = meaning_by (job_of words) source target

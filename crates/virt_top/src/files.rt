@@ -177,7 +177,7 @@ impl<'a, R: Files<File = File>> FileDisk<'a, R> {
 }
 
 impl<'a, R: Files<File = File>> Blocks for FileDisk<'a, R> {
-    ghost use Rattle.virt_top.specs.FileDisk.{OnlyRead};
+    ghost use Rattle.virt_top.specs.FileDisk.{FileOnlyRead};
 
     ghost tells = { false };
 
@@ -187,7 +187,7 @@ impl<'a, R: Files<File = File>> Blocks for FileDisk<'a, R> {
 
     ghost faults = { λ d. d.faults };
 
-    ghost only_read = { λ a b. OnlyRead a.sectors a.attached a.faults b.sectors b.attached b.faults };
+    ghost only_read = { λ a b. FileOnlyRead a.sectors a.attached a.faults b.sectors b.attached b.faults };
 
     fn sectors(&self) -> u64 {
         self.sectors

@@ -1,33 +1,32 @@
 //! virt-resize and virt-sparsify: the program.
 //!
 //! It makes the devices, a disk over each of two files and a sink over each of two streams, and calls
-//! [`run::run`], whose contract says what the program does. `specs/Outcome.antt` says it in words of disks
+//! [`run::run`], whose contract says what the program does. `specs/Ran.antt` says it in words of disks
 //! and text. The files and streams themselves are trusted.
 #![tactic(auto)]
 
 #[cfg(test)]
 mod file_tests;
 mod files;
-mod lines;
 mod report;
 mod run;
 mod streams;
 #[cfg(test)]
 mod tests;
-mod words;
+mod tool;
 
 use disk_base::Sink;
 use files::FileDisk;
 use run::run;
 use std::alloc::{AllocError, Global};
-use std::env;
 use std::process::ExitCode;
+use std::{env, io};
 use streams::StdSink;
 
 // The words of the command line after the program's own name.
 fn words_of(rt: &HostRuntime, alloc: Global) -> Result<Vec<String>, Failure> {
     let mut words = Vec::new(alloc);
-    let args = env::args(rt).map_err(|_| Failure::Words)?;
+    let args = env::args(rt).map_err(failure_of)?;
     for word in args.skip(1) {
         words.push(word).map_err(|_| Failure::Memory)?;
     }
@@ -39,6 +38,14 @@ fn words_of(rt: &HostRuntime, alloc: Global) -> Result<Vec<String>, Failure> {
 enum Failure {
     Words,
     Memory,
+}
+
+// Words that can't be read took more memory than there was, or aren't text.
+fn failure_of(error: io::Error) -> Failure {
+    match error.kind() {
+        io::ErrorKind::OutOfMemory => Failure::Memory,
+        _ => Failure::Words,
+    }
 }
 
 fn main(rt: HostRuntime) -> ExitCode {

@@ -1,12 +1,10 @@
 //! Telling on standard error how a run ended.
 ghost use Rattle.std.specs.Prelude.{◌≡◌, ◌+◌, ◌≤◌, ◌++◌, ◌⊎◌, IsTrue, IfOk, length, string_bytes, List, ℕ};
-ghost use Rattle.disk_base.specs.Faults.{Rose};
-ghost use Rattle.disk_base.specs.Devices.{Tells};
 ghost use Rattle.run_end.specs.Ending.{IsToldFor};
-ghost use Rattle.virt_top.specs.Lines.{TellsLine, failing_text, refusal_text, tool_text};
+ghost use Rattle.virt_top.specs.Lines.{TellsEnd, failing_text, refusal_text, tool_text};
+ghost use Rattle.virt_top.specs.inside.Acts.{SaysOn};
 
-use crate::lines::{no_plan_text, source_text};
-use crate::words::{Tool, tool_text};
+use crate::tool::{Tool, tool_text};
 use arrayvec::ArrayString;
 use disk_base::{DeviceFault, Sink};
 use run_end::{End, Failing, Refusal};
@@ -14,7 +12,7 @@ use std::alloc::{AllocError, Global};
 
 // Writes a line; where standard error fails nothing more can be done.
 fn say<E: Sink>(err: &mut E, line: &[u8])
-    ensures { IsTrue E.tells_text → Tells (Rose (E.sink_faults err.old) (E.sink_faults err.new)) line.now (E.text err.old) (E.text err.new) }
+    ensures { SaysOn E.Sink err.old err.new line.now }
 {
     let _ = err.write(line);
 }
@@ -33,7 +31,7 @@ fn short_line(tool: &str, text: &str) -> ArrayString<64>
 // Tells a short line.
 fn say_short<E: Sink>(tool: Tool, text: &str, err: &mut E)
     requires { length text.now ≤ 32 }
-    ensures { IsTrue E.tells_text → Tells (Rose (E.sink_faults err.old) (E.sink_faults err.new)) (tool_text tool ++ text.now) (E.text err.old) (E.text err.new) }
+    ensures { SaysOn E.Sink err.old err.new (tool_text tool ++ text.now) }
 {
     say(err, short_line(tool_text(tool), text).as_bytes());
 }
@@ -43,9 +41,10 @@ fn refusal_text(alloc: Global, refusal: Refusal) -> Result<String, AllocError>
     ensures { IfOk result (λ text. string_bytes text ≡ refusal_text refusal) }
 {
     match refusal {
+        Refusal::Usage(usage) => format!(in alloc; ": usage: {usage}\n"),
         Refusal::NotYet => String::from_str(alloc, ": not yet\n"),
-        Refusal::Source(fault) => source_text(alloc, fault),
-        Refusal::Plan(fault) => no_plan_text(alloc, fault),
+        Refusal::Source(fault) => format!(in alloc; ": source: {fault}\n"),
+        Refusal::Plan(fault) => format!(in alloc; ": no plan: {fault}\n"),
         Refusal::Memory => String::from_str(alloc, ": memory\n"),
     }
 }
@@ -74,7 +73,7 @@ fn refusal_line(alloc: Global, tool: Tool, refusal: Refusal) -> Result<String, A
 // Tells a refusal, and gives what was told: want of memory where its line took more than there was.
 fn report_refusal<E: Sink>(alloc: Global, tool: Tool, refusal: Refusal, err: &mut E) -> Refusal
     ensures told { (result ≡ refusal) ⊎ (result ≡ Refusal.Memory) }
-    ensures line { IsTrue E.tells_text → Tells (Rose (E.sink_faults err.old) (E.sink_faults err.new)) (tool_text tool ++ refusal_text result) (E.text err.old) (E.text err.new) }
+    ensures line { SaysOn E.Sink err.old err.new (tool_text tool ++ refusal_text result) }
 {
     match refusal_line(alloc, tool, refusal) {
         Ok(line) => {
@@ -92,7 +91,7 @@ fn report_refusal<E: Sink>(alloc: Global, tool: Tool, refusal: Refusal, err: &mu
 /// there was. Nothing is told of what is done.
 pub fn report<E: Sink>(alloc: Global, tool: Tool, end: End, err: &mut E) -> End
     ensures told { IsToldFor end result }
-    ensures line { IsTrue E.tells_text → TellsLine tool (Rose (E.sink_faults err.old) (E.sink_faults err.new)) (E.text err.old) (E.text err.new) result }
+    ensures line { TellsEnd tool E.Sink err.old err.new result }
 {
     match end {
         End::Done => end,

@@ -206,7 +206,7 @@ fn targets_that_fit_and_that_do_not(rt: HostRuntime) -> Result<(), Fail> {
 #[test]
 fn what_is_no_job_or_no_source_is_told(rt: HostRuntime) -> Result<(), Fail> {
     let alloc = rt.alloc();
-    let cases: [(&[&str], u16, &[Slot], u8, &[u8]); 9] = [
+    let cases: [(&[&str], u16, &[Slot], u8, &[u8]); 14] = [
         (
             &["virt-resize", "-n", "a", "b"],
             8,
@@ -221,8 +221,43 @@ fn what_is_no_job_or_no_source_is_told(rt: HostRuntime) -> Result<(), Fail> {
             9,
             b"virt-sparsify: not yet\n",
         ),
-        (&["frob"], 8, &[], 9, b"virt: not yet\n"),
-        (&[], 8, &[], 9, b"virt: not yet\n"),
+        (&["frob"], 8, &[], 1, b"virt: usage: Tool\n"),
+        (&[], 8, &[], 1, b"virt: usage: Tool\n"),
+        (
+            &["virt-resize", "a"],
+            8,
+            &[],
+            1,
+            b"virt-resize: usage: Missing\n",
+        ),
+        (
+            &["virt-resize", "a", "a"],
+            8,
+            &[],
+            1,
+            b"virt-resize: usage: Same\n",
+        ),
+        (
+            &["virt-resize", "a", "b", "c"],
+            8,
+            &[],
+            1,
+            b"virt-resize: usage: Extra place=3\n",
+        ),
+        (
+            &["virt-resize", "--frob", "a", "b"],
+            8,
+            &[],
+            1,
+            b"virt-resize: usage: Unknown place=1\n",
+        ),
+        (
+            &["virt-sparsify", "--zero", "/dev/vg", "a", "b"],
+            8,
+            &[],
+            1,
+            b"virt-sparsify: usage: Value place=2\n",
+        ),
         (
             &["virt-resize", "a", "b"],
             20000,
@@ -308,19 +343,19 @@ const TARGET: &[u8] = b"virt-resize: target device\n";
 
 const PRINTING: &[u8] = b"virt-resize: printing\n";
 
-// The source is attached, read twice for its table, ten times for the content and once for the boot area.
+// The source is attached, read once for its table, ten times for the content and once for the boot area.
 #[test]
 fn each_call_of_the_source_may_fail(rt: HostRuntime) -> Result<(), Fail> {
     let alloc = rt.alloc();
-    for number in 0..15 {
+    for number in 0..14 {
         let failing = Failing {
             source: Some(number),
             ..NONE
         };
         let left = failing_copy(alloc, failing)?;
         let (status, out, err, table) = match number {
-            0..=2 => (5, b"".as_slice(), SOURCE, 0x5A),
-            14 => (0, ALL, b"".as_slice(), 0x55),
+            0..=1 => (5, b"".as_slice(), SOURCE, 0x5A),
+            13 => (0, ALL, b"".as_slice(), 0x55),
             _ => (5, SUMMARY, SOURCE, 0),
         };
         assert_eq!(rt;

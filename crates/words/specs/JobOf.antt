@@ -26,7 +26,7 @@ use Rattle.words.specs.Options.{same_option, tool_of}
 use Rattle.words.specs.Items.{items_of}
 use Rattle.words.specs.Sizes.{size_of}
 use Rattle.words.specs.Spelling.{parted_at, part_of, lv_of, volume_of, alignment_of, align_first_of, unknown_of}
-use Rattle.words.specs.Usage.{stands_in, operands, first_fault}
+use Rattle.words.specs.Usage.{is_among, operands, first_fault}
 
 -- what is wished of a partition
 abbrev pub wish_for : What → ℕ → Option ℕ → Option Wish
@@ -52,9 +52,9 @@ wish_in ResizeForce place value = sized_wish true place value
 wish_in option place value = None
 
 -- the wish of an item, if it has one
-abbrev pub wish_of : Item → Option Wish
-wish_of (Valued known place value value_place) = wish_in known.option value_place value
-wish_of item = None
+abbrev pub item_wish : Item → Option Wish
+item_wish (Valued known place value value_place) = wish_in known.option value_place value
+item_wish item = None
 
 -- the value of an item with this option
 abbrev pub value_if : Choice → Item → Option (List ℕ)
@@ -87,22 +87,22 @@ unfoldable pub layout_of : List Item → Layout
 layout_of items = record {
   align = setting 128 alignment_of (value_of Alignment items);
   always = setting false align_first_of (value_of AlignFirst items);
-  extra = not (stands_in NoExtraPartition items);
+  extra = not (is_among NoExtraPartition items);
 }
 
 unfoldable pub resize_job_of : List Item → List ℕ → List ℕ → ResizeJob
 resize_job_of items source target = record {
   source = source;
   target = target;
-  wishes = filter_map wish_of items;
+  wishes = filter_map item_wish items;
   layout = layout_of items;
   lvs = filter_map lv_wish_of items;
-  boot = not (stands_in NoCopyBootLoader items);
-  grow = not (stands_in NoExpandContent items);
+  boot = not (is_among NoCopyBootLoader items);
+  grow = not (is_among NoExpandContent items);
   unknown = setting Warn unknown_of (value_of UnknownFilesystems items);
-  sparse = not (stands_in NoSparse items);
-  dry = stands_in DryRun items;
-  quiet = stands_in Quiet items;
+  sparse = not (is_among NoSparse items);
+  dry = is_among DryRun items;
+  quiet = is_among Quiet items;
 }
 
 unfoldable pub sparsify_job_of : List Item → List ℕ → Option (List ℕ) → SparsifyJob
@@ -111,7 +111,7 @@ sparsify_job_of items source target = record {
   target = target;
   ignore = filter_map (volume_wish_of IgnoreVolume) items;
   zero = filter_map (volume_wish_of ZeroVolume) items;
-  quiet = stands_in Quiet items;
+  quiet = is_among Quiet items;
 }
 
 -- the source and the target, which may not be one text
@@ -134,7 +134,7 @@ in_place_answer items = elim (slice_get (operands items) 0) [ None ↦ Err fault
 -- the answer to items without a fault
 unfoldable pub answer_to : Tool → List Item → Result Job Usage
 answer_to VirtResize items = resize_answer items
-answer_to VirtSparsify items = if stands_in InPlace items then in_place_answer items else copy_answer items
+answer_to VirtSparsify items = if is_among InPlace items then in_place_answer items else copy_answer items
 
 -- the first fault of the items, or else what they ask for
 unfoldable pub job_from : Tool → List Item → Result Job Usage

@@ -4,4 +4,5 @@ pub mod Numbers
 pub mod Options
 pub mod Sizes
 pub mod Spelling
+pub mod Texts
 pub mod Usage

@@ -11,8 +11,8 @@ abbrev pub with_digit : ℕ → ℕ → ℕ
 with_digit number digit = 10 * number + (digit - 48)
 
 -- the number that digits spell in base ten
-abbrev pub number_of : List ℕ → ℕ
-number_of digits = fold with_digit 0 digits
+abbrev pub spelled_number : List ℕ → ℕ
+spelled_number digits = fold with_digit 0 digits
 
 -- one to `most` bytes, each a digit
 abbrev pub are_digits : ℕ → List ℕ → Bool
@@ -20,7 +20,7 @@ are_digits most bytes = nat_lt 0 (length bytes) && nat_le (length bytes) most &&
 
 -- what one to `most` digits spell
 unfoldable pub digits_of : ℕ → List ℕ → Option ℕ
-digits_of most bytes = if are_digits most bytes then Some (number_of bytes) else None
+digits_of most bytes = if are_digits most bytes then Some (spelled_number bytes) else None
 
 -- the same without a leading zero
 unfoldable pub whole_number_of : ℕ → List ℕ → Option ℕ

@@ -27,8 +27,8 @@ is_named option Ends = false
 is_named option (Operand place text) = false
 
 -- whether an option is among the items
-abbrev pub stands_in : Choice → List Item → Bool
-stands_in option items = list_any (is_named option) items
+abbrev pub is_among : Choice → List Item → Bool
+is_among option items = list_any (is_named option) items
 
 abbrev pub operand_of : Item → Option (List ℕ)
 operand_of (Operand place text) = Some text
@@ -40,11 +40,11 @@ operands items = filter_map operand_of items
 
 -- the options that shut each other out, the later one being the fault
 unfoldable pub is_excluded : Choice → List Item → Bool
-is_excluded Expand earlier = stands_in Shrink earlier
-is_excluded Shrink earlier = stands_in Expand earlier
-is_excluded InPlace earlier = stands_in ZeroVolume earlier || stands_in Convert earlier || nat_lt 1 (length (operands earlier))
-is_excluded ZeroVolume earlier = stands_in InPlace earlier
-is_excluded Convert earlier = stands_in InPlace earlier
+is_excluded Expand earlier = is_among Shrink earlier
+is_excluded Shrink earlier = is_among Expand earlier
+is_excluded InPlace earlier = is_among ZeroVolume earlier || is_among Convert earlier || nat_lt 1 (length (operands earlier))
+is_excluded ZeroVolume earlier = is_among InPlace earlier
+is_excluded Convert earlier = is_among InPlace earlier
 is_excluded option earlier = false
 
 abbrev pub is_once : Kind → Bool
@@ -53,7 +53,7 @@ is_once kind = false
 
 -- an option with a value that comes again, or that an earlier one shuts out
 unfoldable pub option_fault : List Item → Known → ℕ → Option Usage
-option_fault earlier known place = if is_once known.kind && stands_in known.option earlier then Some (Twice place) else if is_excluded known.option earlier then Some (Excluded place) else None
+option_fault earlier known place = if is_once known.kind && is_among known.option earlier then Some (Twice place) else if is_excluded known.option earlier then Some (Excluded place) else None
 
 -- the fault where the value spells nothing
 abbrev pub unless : {A : Type 0} → Usage → Option A → Option Usage
@@ -101,20 +101,20 @@ volume_in item = None
 unfoldable pub volume_fault : List Item → Item → ℕ → Option Usage
 volume_fault earlier item place = if list_any (λ other. are_one (volume_in item) (volume_in other)) earlier then Some (Twice place) else None
 
-abbrev pub first_of : Option Usage → Option Usage → Option Usage
-first_of None later = later
-first_of (Some fault) later = Some fault
+abbrev pub first_some : Option Usage → Option Usage → Option Usage
+first_some None later = later
+first_some (Some fault) later = Some fault
 
 -- how many operands there may be: one with `--in-place`, else two
 abbrev pub most_operands : List Item → ℕ
-most_operands items = if stands_in InPlace items then 1 else 2
+most_operands items = if is_among InPlace items then 1 else 2
 
 -- the first fault of an item. An option's place is never behind that of its value, and at one place the order is this one
 unfoldable pub fault_of : List Item → Item → Option Usage
 fault_of earlier (Plain option place) = if is_excluded option earlier then Some (Excluded place) else None
 fault_of earlier (Spoiled option place) = if is_excluded option earlier then Some (Excluded place) else Some (Value place)
-fault_of earlier (Valued known place value value_place) = first_of (option_fault earlier known place) (first_of (value_fault known.option value_place value) (volume_fault earlier (Valued known place value value_place) value_place))
-fault_of earlier (Bare known place) = first_of (option_fault earlier known place) (Some (Value place))
+fault_of earlier (Valued known place value value_place) = first_some (option_fault earlier known place) (first_some (value_fault known.option value_place value) (volume_fault earlier (Valued known place value value_place) value_place))
+fault_of earlier (Bare known place) = first_some (option_fault earlier known place) (Some (Value place))
 fault_of earlier (Stray place) = Some (Unknown place)
 fault_of earlier Ends = None
 fault_of earlier (Operand place text) = if nat_lt (length (operands earlier)) (most_operands earlier) then None else Some (Extra place)
@@ -122,4 +122,4 @@ fault_of earlier (Operand place text) = if nat_lt (length (operands earlier)) (m
 -- the first fault of the later items. The places of items rise, so it is the first by place
 abbrev pub first_fault : List Item → List Item → Option Usage
 first_fault earlier [] = None
-first_fault earlier (item ∷ later) = first_of (fault_of earlier item) (first_fault (earlier ++ item ∷ []) later)
+first_fault earlier (item ∷ later) = first_some (fault_of earlier item) (first_fault (earlier ++ item ∷ []) later)

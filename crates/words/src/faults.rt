@@ -2,7 +2,7 @@
 ghost use Rattle.std.specs.List.{list_any};
 ghost use Rattle.std.specs.Prelude.{◌≡◌, [], ◌==◌, if◌then◌else◌, IfOk, codes, length};
 ghost use Rattle.std.specs.Str.{bytes_eq};
-ghost use Rattle.words.specs.Usage.{are_one, fault_of, first_fault, is_excluded, is_named, is_once, most_operands, names_volumes, operand_of, operands, option_fault, sized_fault, stands_in, value_fault, volume_fault, volume_in};
+ghost use Rattle.words.specs.Usage.{are_one, fault_of, first_fault, is_excluded, is_named, is_once, most_operands, names_volumes, operand_of, operands, option_fault, sized_fault, is_among, value_fault, volume_fault, volume_in};
 
 use crate::items::Item;
 use crate::job::VolumeName;
@@ -27,7 +27,7 @@ fn is_option(option: Choice, item: &Item) -> bool
 
 /// Whether an option is among the items.
 pub fn is_among(option: Choice, items: &[Item]) -> bool
-    ensures { result ≡ stands_in option items.now }
+    ensures { result ≡ is_among option items.now }
 {
     items.iter().any(|item| is_option(option, item))
 }

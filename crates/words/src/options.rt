@@ -85,86 +85,80 @@ pub fn named_tool(word: &[u8]) -> Option<Tool>
     }
 }
 
+// An option without a value.
+fn flag(found: Option<Known>, name: &[u8], text: &[u8], option: Choice) -> Option<Known>
+    ensures { result ≡ (if bytes_eq name.now text.now then Some (record { option = option; kind = Kind.Flag }) else found) }
+{
+    row_or(found, name, text, option, Kind::Flag)
+}
+
+// An option that may come once.
+fn once(found: Option<Known>, name: &[u8], text: &[u8], option: Choice) -> Option<Known>
+    ensures { result ≡ (if bytes_eq name.now text.now then Some (record { option = option; kind = Kind.Once }) else found) }
+{
+    row_or(found, name, text, option, Kind::Once)
+}
+
+// An option that may come many times.
+fn many(found: Option<Known>, name: &[u8], text: &[u8], option: Choice) -> Option<Known>
+    ensures { result ≡ (if bytes_eq name.now text.now then Some (record { option = option; kind = Kind.Many }) else found) }
+{
+    row_or(found, name, text, option, Kind::Many)
+}
+
 fn resize_option(name: &[u8]) -> Option<Known>
     ensures { result ≡ named_in resize_options name.now }
 {
-    let found = row_or(None, name, b"--quiet", Choice::Quiet, Kind::Flag);
-    let found = row_or(found, name, b"-q", Choice::Quiet, Kind::Flag);
-    let found = row_or(found, name, b"--dry-run", Choice::DryRun, Kind::Flag);
-    let found = row_or(found, name, b"--dryrun", Choice::DryRun, Kind::Flag);
-    let found = row_or(found, name, b"-n", Choice::DryRun, Kind::Flag);
-    let found = row_or(found, name, b"--no-sparse", Choice::NoSparse, Kind::Flag);
-    let found = row_or(
-        found,
-        name,
-        b"--no-expand-content",
-        Choice::NoExpandContent,
-        Kind::Flag,
-    );
-    let found = row_or(
+    let found = flag(None, name, b"--quiet", Choice::Quiet);
+    let found = flag(found, name, b"-q", Choice::Quiet);
+    let found = flag(found, name, b"--dry-run", Choice::DryRun);
+    let found = flag(found, name, b"--dryrun", Choice::DryRun);
+    let found = flag(found, name, b"-n", Choice::DryRun);
+    let found = flag(found, name, b"--no-sparse", Choice::NoSparse);
+    let found = flag(found, name, b"--no-expand-content", Choice::NoExpandContent);
+    let found = flag(
         found,
         name,
         b"--no-copy-boot-loader",
         Choice::NoCopyBootLoader,
-        Kind::Flag,
     );
-    let found = row_or(
+    let found = flag(
         found,
         name,
         b"--no-extra-partition",
         Choice::NoExtraPartition,
-        Kind::Flag,
     );
-    let found = row_or(
-        found,
-        name,
-        b"--output-format",
-        Choice::OutputFormat,
-        Kind::Once,
-    );
-    let found = row_or(found, name, b"--format", Choice::Format, Kind::Once);
-    let found = row_or(
+    let found = once(found, name, b"--output-format", Choice::OutputFormat);
+    let found = once(found, name, b"--format", Choice::Format);
+    let found = once(
         found,
         name,
         b"--unknown-filesystems",
         Choice::UnknownFilesystems,
-        Kind::Once,
     );
-    let found = row_or(
-        found,
-        name,
-        b"--align-first",
-        Choice::AlignFirst,
-        Kind::Once,
-    );
-    let found = row_or(found, name, b"--alignment", Choice::Alignment, Kind::Once);
-    let found = row_or(found, name, b"--LV-expand", Choice::LvExpand, Kind::Many);
-    let found = row_or(found, name, b"--lv-expand", Choice::LvExpand, Kind::Many);
-    let found = row_or(found, name, b"--ignore", Choice::Ignore, Kind::Many);
-    let found = row_or(found, name, b"--delete", Choice::Delete, Kind::Many);
-    let found = row_or(
-        found,
-        name,
-        b"--resize-force",
-        Choice::ResizeForce,
-        Kind::Many,
-    );
-    let found = row_or(found, name, b"--resize", Choice::Resize, Kind::Many);
-    let found = row_or(found, name, b"--shrink", Choice::Shrink, Kind::Once);
-    let found = row_or(found, name, b"--expand", Choice::Expand, Kind::Once);
+    let found = once(found, name, b"--align-first", Choice::AlignFirst);
+    let found = once(found, name, b"--alignment", Choice::Alignment);
+    let found = many(found, name, b"--LV-expand", Choice::LvExpand);
+    let found = many(found, name, b"--lv-expand", Choice::LvExpand);
+    let found = many(found, name, b"--ignore", Choice::Ignore);
+    let found = many(found, name, b"--delete", Choice::Delete);
+    let found = many(found, name, b"--resize-force", Choice::ResizeForce);
+    let found = many(found, name, b"--resize", Choice::Resize);
+    let found = once(found, name, b"--shrink", Choice::Shrink);
+    let found = once(found, name, b"--expand", Choice::Expand);
     found
 }
 
 fn sparsify_option(name: &[u8]) -> Option<Known>
     ensures { result ≡ named_in sparsify_options name.now }
 {
-    let found = row_or(None, name, b"--quiet", Choice::Quiet, Kind::Flag);
-    let found = row_or(found, name, b"-q", Choice::Quiet, Kind::Flag);
-    let found = row_or(found, name, b"--convert", Choice::Convert, Kind::Once);
-    let found = row_or(found, name, b"--format", Choice::Format, Kind::Once);
-    let found = row_or(found, name, b"--in-place", Choice::InPlace, Kind::Flag);
-    let found = row_or(found, name, b"--zero", Choice::ZeroVolume, Kind::Many);
-    let found = row_or(found, name, b"--ignore", Choice::IgnoreVolume, Kind::Many);
+    let found = flag(None, name, b"--quiet", Choice::Quiet);
+    let found = flag(found, name, b"-q", Choice::Quiet);
+    let found = once(found, name, b"--convert", Choice::Convert);
+    let found = once(found, name, b"--format", Choice::Format);
+    let found = flag(found, name, b"--in-place", Choice::InPlace);
+    let found = many(found, name, b"--zero", Choice::ZeroVolume);
+    let found = many(found, name, b"--ignore", Choice::IgnoreVolume);
     found
 }
 

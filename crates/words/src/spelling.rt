@@ -1,7 +1,7 @@
 //! What the values of the options spell.
 ghost use Rattle.std.specs.List.{list_all};
 ghost use Rattle.std.specs.Prelude.{◌≡◌, ℕ, ◌+◌, ◌≤◌, ◌<◌, ◌==◌, ◌*◌, ◌^◌, IfSome, IfOk, IsTrue, MatchOption, is_some, length, position};
-ghost use Rattle.words.specs.Numbers.{is_digit, number_of, digits_of, whole_number_of};
+ghost use Rattle.words.specs.Numbers.{is_digit, spelled_number, digits_of, whole_number_of};
 ghost use Rattle.words.specs.Spelling.{without_dev, begins_with_disk, part_of, is_name_byte, is_name, parted_at, lv_of, volume_of, is_same_volume, alignment_of, align_first_of, unknown_of};
 
 use crate::job::{Unknown, VolumeName};
@@ -27,7 +27,7 @@ fn all_digits(bytes: &[u8]) -> bool
 #[tactic(auto, using(crate::proofs::Powers::next_power, crate::proofs::Powers::power_fits, std::proofs::lemmas::List::Sums::fold_more))]
 fn number(digits: &[u8]) -> u64
     requires { length digits.now ≤ 15 }
-    ensures value { result ≡ number_of digits.now }
+    ensures value { result ≡ spelled_number digits.now }
     ensures small { result + 23 ≤ 23 * 10 ^ length digits.now }
 {
     let mut number: u64 = 0;

@@ -2,7 +2,7 @@
 ghost use Rattle.std.specs.List.{cons_option, filter_map};
 ghost use Rattle.std.specs.Option.{option_copied};
 ghost use Rattle.std.specs.Prelude.{◌≡◌, [], ◌++◌, IfOk, OnOk, slice_get};
-ghost use Rattle.words.specs.JobOf.{lv_wish_of, sized, sized_wish, value_if, value_of, volume_wish_of, wish_for, wish_in, wish_of};
+ghost use Rattle.words.specs.JobOf.{lv_wish_of, sized, sized_wish, value_if, value_of, volume_wish_of, wish_for, wish_in, item_wish};
 ghost use Rattle.words.specs.Usage.{operands};
 
 use crate::items::Item;
@@ -62,7 +62,7 @@ fn spelled_wish(option: Choice, place: u64, value: &[u8]) -> Option<Wish>
 }
 
 fn find_wish(item: &Item) -> Option<Wish>
-    ensures { result ≡ wish_of item.now }
+    ensures { result ≡ item_wish item.now }
 {
     match item {
         Item::Valued(known, _, value, place) => {
@@ -87,7 +87,7 @@ fn add<T: Drop>(list: &mut List<T>, item: Option<T>) -> Result<(), AllocError>
 
 /// The wishes for partitions, in the order of the words.
 pub fn read_wishes(alloc: Global, items: &[Item]) -> Result<List<Wish>, AllocError>
-    ensures { IfOk result (λ wishes. wishes ≡ filter_map wish_of items.now) }
+    ensures { IfOk result (λ wishes. wishes ≡ filter_map item_wish items.now) }
 {
     let mut wishes = List::new(alloc);
     for item in items {

@@ -6,7 +6,7 @@ use Rattle.std.proofs.lemmas.Grind.{div_ceil_times}
 use Rattle.std.proofs.Math.Pow.{pow_mono}
 use Rattle.xfs_super.specs.Geometry.{Geometry, group_len, is_least_log, blocks_in_group, are_groups, is_sector_size, is_log_place, AreGroups, AreSizes, IsLogPlace}
 use Rattle.xfs_super.specs.Superblock.{has_inode_sizes, has_sector_size, has_sizes, has_places, geometry_from}
-use Rattle.xfs_super.specs.inside.Layout.{IsLaidOut}
+use Rattle.xfs_super.specs.inside.Layout.{HasLayout}
 use Rattle.xfs_super.specs.declared.superblock.Superblock.{Superblock}
 
 half_below : (k n : ℕ) → 64 ≤ n → (k ≡ 0) ⊎ (2 ^ (k - 1) < n) → 2 ^ (k - 1) < n
@@ -124,7 +124,7 @@ log_from_test g h =
       inside = leb-true _ _ last.1;
     }
 
-pub laid_from_tests : (s : Superblock) → has_sizes s ≡ true → has_places s ≡ true → IsLaidOut s
+pub laid_from_tests : (s : Superblock) → has_sizes s ≡ true → has_places s ≡ true → HasLayout s
 laid_from_tests s sized placed =
     let places = and_parts (are_groups s.dblocks s.agblocks s.agcount s.agblklog) (is_log_place (geometry_from s)) placed in
     record {

@@ -2,7 +2,7 @@
 ghost use Rattle.std.specs.Prelude.{◌≡◌, ◌+◌, ◌*◌, ◌^◌, ◌<◌, ◌≤◌, length, ℕ, true, false, OnOk, IfOk, IfErr, Ok, Err};
 ghost use Rattle.xfs_super.specs.Geometry.{is_least_log, are_groups, is_log_place, AreGroups, AreSizes, IsLogPlace};
 ghost use Rattle.xfs_super.specs.Superblock.{superblock_in, geometry_from, geometry_in, has_magic, has_sizes, has_sector_size, has_inode_sizes, has_features, fits_volume, is_laid_out, has_checksum, SpeaksAgainst, IsSuperblock, IsDeclined, IsAccepted, has_superblock_checksum, has_places};
-ghost use Rattle.xfs_super.specs.inside.Layout.{IsLaidOut};
+ghost use Rattle.xfs_super.specs.inside.Layout.{HasLayout};
 ghost use Rattle.xfs_super.specs.Super.{geometry_of};
 
 use crate::bytes::{array, has_checksum, has_flag};
@@ -218,7 +218,7 @@ impl Superblock {
 
     /// What it says of its volume.
     fn to_super(&self) -> Super
-        requires { IsLaidOut self.now }
+        requires { HasLayout self.now }
         ensures { geometry_of result ≡ geometry_from self.now }
     {
         let meta = if has_flag(self.incompat, 2) {

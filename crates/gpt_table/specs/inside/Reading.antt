@@ -8,7 +8,7 @@ use Rattle.gpt_table.specs.declared.reading.Found.TheVariants as found
 use Rattle.gpt_table.specs.declared.header.Header.{Header}
 use Rattle.gpt_table.specs.declared.header.Judged.{Judged}
 use Rattle.gpt_table.specs.declared.header.Judged.TheVariants as judged
-use Rattle.gpt_table.specs.Header.{header_at, array_of, ArePlaced, IsPlacedHeader, HasOtherShape, IsValid, IsMisshapen, IsAbsent}
+use Rattle.gpt_table.specs.Header.{header_at, array_of, LieOnDisk, IsPlacedHeader, HasOtherShape, IsValid, IsMisshapen, IsAbsent}
 use Rattle.gpt_table.specs.Gpt.{IsInUse, IsFirstBad, HasNoHeader, HasOtherTable, header_in, array_in}
 
 -- neither a placed header nor one of another shape
@@ -31,20 +31,20 @@ IsHindered faults.Device = Unit {0}
 IsHindered faults.Memory = Unit {0}
 
 -- a valid header and its array
-pub record IsTaken (sectors at : ℕ) (image : List ℕ) (header : Header) (array : List ℕ) : Type 0 where
+pub record IsValidFound (sectors at : ℕ) (image : List ℕ) (header : Header) (array : List ℕ) : Type 0 where
   pub valid : IsValid sectors at image
   pub header_is : header ≡ header_at image at
   pub array_is : array ≡ array_of image (header_at image at)
 
 -- what sector `at` of a disk holds
-abbrev pub IsFound : ℕ → ℕ → List ℕ → Found → Type 0
-IsFound sectors at image found.Absent = IsAbsent sectors at image
-IsFound sectors at image (found.Misshapen count size) = IsMisshapen sectors at image count size
-IsFound sectors at image (found.Valid header array) = IsTaken sectors at image header array.items
+abbrev pub IsHeaderFound : ℕ → ℕ → List ℕ → Found → Type 0
+IsHeaderFound sectors at image found.Absent = IsAbsent sectors at image
+IsHeaderFound sectors at image (found.Misshapen count size) = IsMisshapen sectors at image count size
+IsHeaderFound sectors at image (found.Valid header array) = IsValidFound sectors at image header array.items
 
 -- what is known of it on every disk
 pub record IsTakenInside (sectors : ℕ) (header : Header) (array : List ℕ) : Type 0 where
-  pub placed : ArePlaced sectors header
+  pub placed : LieOnDisk sectors header
   pub long : length array ≡ 16384
 
 abbrev pub IsBounded : ℕ → Found → Type 0

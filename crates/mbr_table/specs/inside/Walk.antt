@@ -10,11 +10,11 @@ use Rattle.mbr_table.specs.declared.chain.Walk.{Walk}
 use Rattle.mbr_table.specs.Slot.{holds_extended}
 use Rattle.mbr_table.specs.declared.sector.SectorTable.{SectorTable}
 use Rattle.mbr_table.specs.Mbr.{IsSectorTable, plain_table}
-use Rattle.mbr_table.specs.Chain.{logical_of, next_of, due_at, logicals_at, IsInside, IsGoodRecord, IsBeginning, IsOneTooMany, ComesToBad, ComesTooFar, IsLogicalIn}
+use Rattle.mbr_table.specs.Chain.{logical_of, next_of, due_at, logicals_at, IsInExtended, IsGoodRecord, IsBeginning, IsOneTooMany, ComesToBad, ComesTooFar, IsLogicalIn}
 
 -- a place from which a record may be read after those at `places`
 pub record IsNew (extended : Slot) (places : List ℕ) (at : ℕ) : Type 0 where
-  pub inside : IsInside extended at
+  pub inside : IsInExtended extended at
   pub new : Contains places at → ⊥
   pub few : length places < 60
 
@@ -22,7 +22,7 @@ pub record IsNew (extended : Slot) (places : List ℕ) (at : ℕ) : Type 0 where
 abbrev pub IsPlaceFault : Slot → List ℕ → ℕ → MbrFault → Type 0
 IsPlaceFault extended places at NoSignature = ⊥
 IsPlaceFault extended places at (Entry number) = ⊥
-IsPlaceFault extended places at (Chain place) = (place ≡ at) × ((IsInside extended at → ⊥) ⊎ Contains places at)
+IsPlaceFault extended places at (Chain place) = (place ≡ at) × ((IsInExtended extended at → ⊥) ⊎ Contains places at)
 IsPlaceFault extended places at (TooMany place) = (place ≡ at) × IsOneTooMany extended places at
 IsPlaceFault extended places at Device = ⊥
 IsPlaceFault extended places at Memory = ⊥
@@ -34,8 +34,8 @@ pub record IsFound (extended : Slot) (at : ℕ) (bytes : List ℕ) (found : Reco
   pub next : found.next ≡ next_of extended.start bytes
 
 -- what a record is found to say, if it is a good one
-abbrev pub IsJudged : Slot → ℕ → List ℕ → Option Record → Type 0
-IsJudged extended at bytes found =
+abbrev pub IsRecordFound : Slot → ℕ → List ℕ → Option Record → Type 0
+IsRecordFound extended at bytes found =
     MatchOption found (IsGoodRecord extended at bytes → ⊥) (λ says. IsFound extended at bytes says)
 
 -- what a record says that was read of a disk: those bytes, where the disk tells, are its sector
@@ -65,7 +65,7 @@ pub record IsWalkTo (image : List ℕ) (extended : Slot) (walk : Walk) (at : ℕ
   pub next : walk.next ≡ Some at
 
 -- what is known of them on every disk
-pub record IsWithin (extended : Slot) (walk : Walk) : Type 0 where
+pub record IsWalkWithin (extended : Slot) (walk : Walk) : Type 0 where
   pub few : length walk.places.items ≤ 60
   pub counted : length walk.logicals.items ≤ length walk.places.items
   pub each : All (IsLogicalIn extended) walk.logicals.items

@@ -10,9 +10,7 @@ use Rattle.disk_base.specs.declared.device.DeviceFault.{DeviceFault}
 use Rattle.disk_base.specs.declared.device.DeviceFault.TheVariants as devices
 use Rattle.disk_base.specs.declared.device.Mode.{Mode}
 use Rattle.disk_base.specs.declared.device.Mode.TheVariants.{Read}
-use Rattle.mbr_table.specs.declared.fault.MbrFault.{MbrFault}
-use Rattle.mbr_table.specs.declared.fault.MbrFault.TheVariants as faults
-use Rattle.mbr_table.specs.Mbr.{Table, HasMbrFault}
+use Rattle.mbr_table.specs.Mbr.{Table}
 use Rattle.resize_core.specs.declared.refusal.MbrRefused.{MbrRefused}
 use Rattle.resize_core.specs.declared.refusal.MbrRefused.TheVariants as refused
 use Rattle.resize_core.specs.Placing.{IsPlacing}
@@ -22,39 +20,25 @@ use Rattle.resize_core.specs.Targets.{IsRefusedFor}
 use Rattle.run_end.specs.declared.end.Failing.{Failing}
 use Rattle.run_end.specs.declared.end.Failing.TheVariants.{Device as FailedDevice, Printing}
 use Rattle.run_end.specs.declared.end.Refusal.TheVariants.{NotYet, Source, Plan, Memory}
-use Rattle.run_end.specs.declared.end.SourceFault.TheVariants.{NoSignature, Entry, Overlap}
+use Rattle.run_end.specs.declared.end.SourceFault.TheVariants.{Overlap}
 use Rattle.resize_core.specs.declared.unready.Unready.{Unready}
 use Rattle.resize_core.specs.declared.unready.Unready.TheVariants.{Refused, Device}
 use Rattle.disk_base.specs.Devices.{CausedBy, GainsPrefix, Held, Untouched, Use, held}
 use Rattle.run_end.specs.declared.end.End.{End}
-use Rattle.run_end.specs.Ending.{Leaves, MayPass, Meaning, Prints}
+use Rattle.run_end.specs.Ending.{Cause, EndLeaves, MayPass, Meaning, Prints}
 use Rattle.resize_core.specs.Copying.{IsCopyRefused, IsWork, copy_on}
 use Rattle.resize_core.specs.Summary.{last_line, lines_of}
-
--- what a fault of the table stops with; a fault that no table has yet counts as what isn't served
-abbrev pub unready_of_fault : MbrFault → Unready
-unready_of_fault faults.NoSignature = Refused (Source NoSignature)
-unready_of_fault (faults.Entry number) = Refused (Source (Entry number))
-unready_of_fault (faults.Chain at) = Refused NotYet
-unready_of_fault (faults.TooMany at) = Refused NotYet
-unready_of_fault faults.Device = Device
-unready_of_fault faults.Memory = Refused Memory
 
 -- what a refusal of the work stops with
 abbrev pub unready_of_refused : MbrRefused → Unready
 unready_of_refused (refused.Overlap a b) = Refused (Source (Overlap a b))
 unready_of_refused (refused.NoPlan fault) = Refused (Plan fault)
-unready_of_refused refused.Device = Device
 unready_of_refused refused.Memory = Refused Memory
 
 -- why no work is ready, by what the two disks hold
 abbrev pub IsUnready : List ℕ → List ℕ → Unready → Type 0
 IsUnready source target (Refused refusal) = (refusal ≡ Memory) ⊎ IsCopyRefused source target refusal
 IsUnready source target Device = Unit {0}
-
--- a fault of a disk's own table
-abbrev pub IsTableFault : ℕ → List ℕ → Unready → Type 0
-IsTableFault sectors image unready = (fault : MbrFault) × (unready ≡ unready_of_fault fault) × HasMbrFault sectors image fault
 
 -- a refusal of the work for a disk of that table on one of so many sectors
 abbrev pub IsWorkRefused : ℕ → Table → Unready → Type 0
@@ -120,9 +104,15 @@ CutsLines work summary s source t d target target' o out out' failing =
 abbrev pub OnCopy : {S T : Type 0} → List ℕ → List ℕ → BlocksGhosts S → S → BlocksGhosts T → T → (Meaning → Type 0) → Type 0
 OnCopy from to s source t target Says = IsTrue s.tells → IsTrue t.tells → Says (copy_on from to s source t target)
 
+-- the cause of how a copy ended
+abbrev pub CausesOn : {S T O : Type 0} → List ℕ → List ℕ → BlocksGhosts S → S → S → BlocksGhosts T → T → T → SinkGhosts O → O → O → End → Type 0
+CausesOn from to s source source' t target target' o out out' end =
+    Cause (copy_on from to s source t target) (Rose (s.faults source) (s.faults source')) (Rose (t.faults target) (t.faults target'))
+    (Rose (o.sink_faults out) (o.sink_faults out')) end
+
 -- what an end leaves of the target, and prints
 abbrev pub LeavesOn : {T : Type 0} → BlocksGhosts T → DiskGhosts T → T → T → End → Meaning → Type 0
-LeavesOn t d target target' end m = Leaves m (held t d target) (held t d target') end
+LeavesOn t d target target' end m = EndLeaves m (held t d target) (held t d target') end
 
 abbrev pub PrintsOn : {T O : Type 0} → BlocksGhosts T → DiskGhosts T → T → T → SinkGhosts O → O → O → End → Meaning → Type 0
 PrintsOn t d target target' o out out' end m =

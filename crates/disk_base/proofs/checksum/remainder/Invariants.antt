@@ -1,5 +1,6 @@
 use Rattle.std.proofs.Common.{◌≡◌, ℕ, take}
-use Rattle.disk_base.specs.Checksum.{bits, message, IsTable, rest_after}
+use Rattle.disk_base.specs.Checksum.{bits, message, rest_after}
+use Rattle.disk_base.specs.inside.Tables.{IsTable}
 use Rattle.disk_base.proofs.checksum.remainder.Given as goal
 
 abbrev pub invariant-loop-byte : goal.invariant-loop-byte

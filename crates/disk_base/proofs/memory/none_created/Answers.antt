@@ -5,6 +5,6 @@ use Rattle.disk_base.specs.Past.{Idle, event_of, events_of, is_created}
 use Rattle.disk_base.proofs.memory.none_created.Goals as goal
 
 pub returns : goal.returns
-returns c = λ t written.
+returns c = λ written.
     let past : length (events_of written c.args.history.now) ≤ c.args.call = omega (arith, length-map c.args.history.now (event_of written)) in
     ap is_created (get_or_past (events_of written c.args.history.now) c.args.call Idle past)

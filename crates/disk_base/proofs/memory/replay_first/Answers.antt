@@ -1,7 +1,8 @@
 -- One more call, as far as its first sectors.
 use Rattle.std.proofs.Common.{◌≡◌, ◌<◌, ◌-◌, ℕ, List, length, take, slice_index_or, arith, sym, ap, subst, ◌∙◌}
 use Rattle.std.proofs.lemmas.List.{length-map}
-use Rattle.disk_base.specs.Past.{Event, Idle, event_of, events_of, image_after, IsInside}
+use Rattle.disk_base.specs.Past.{Event, Idle, event_of, events_of, image_after}
+use Rattle.disk_base.specs.inside.Calls.{IsCallInside}
 use Rattle.disk_base.specs.Stopped.{cut_short, touched}
 use Rattle.disk_base.proofs.Stoppings.{event_of_at, inside_at, inside_same, image_step, kept_step, still, still_step, length_cut, length_replayed}
 use Rattle.disk_base.proofs.memory.replay_first.Goals as goal
@@ -11,7 +12,7 @@ replay_part-left-requires-clause-inside c =
     let events = events_of c.args.written.now c.args.history.now in
     let i = c.loop-effect.effect-index in
     let small : i < length events = omega (arith, length-map c.args.history.now (event_of c.args.written.now)) in
-    let Inside : Event → Type 0 = λ e. IsInside c.loop-effect.image.items e in
+    let Inside : Event → Type 0 = λ e. IsCallInside c.loop-effect.image.items e in
     subst Inside (event_of_at c.args.written.now c.args.history.now i)
     (inside_same _ _ (slice_index_or events i Idle) c.loop-effect.invariant.long (inside_at events c.args.image.now.items i Idle small c.requires.inside))
 

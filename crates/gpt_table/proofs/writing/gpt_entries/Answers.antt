@@ -1,6 +1,6 @@
 use Rattle.std.proofs.Common.{◌≡◌, ◌<◌, ◌∙◌, ap, sym, arith, below_more, get_or, length, None, ℕ}
 use Rattle.std.proofs.lemmas.List.{get_or_default}
-use Rattle.gpt_table.specs.Entry.{entry_of, used, kept, slot_bytes, slot_at}
+use Rattle.gpt_table.specs.Entry.{entry_of, used, kept_entry, slot_bytes, slot_at}
 use Rattle.gpt_table.proofs.Written.{slots_back, written_more, written_all, reads_as}
 use Rattle.gpt_table.proofs.writing.gpt_entries.Goals as goal
 
@@ -15,7 +15,7 @@ loop-i-preserved c =
     record {
       written = written_more c.args.out.now c.loop-i.out c.put.new.out c.slot_bytes.result c.args.gpt.now.entries c.loop-i.i None c.told-out count lt c.loop-i.invariant.long c.loop-i.invariant.written bytes bytes-long c.put.ensures.written;
       long = below_more _ _ c.loop-i.invariant.long (ap length (sym bytes) ∙ bytes-long);
-      read_back = below_more _ _ c.loop-i.invariant.read_back (ap (λ b. used (entry_of b)) (sym bytes) ∙ c.slot_bytes.ensures.read_back ∙ ap kept item);
+      read_back = below_more _ _ c.loop-i.invariant.read_back (ap (λ b. used (entry_of b)) (sym bytes) ∙ c.slot_bytes.ensures.read_back ∙ ap kept_entry item);
     }
 
 pub returns-clause-bytes : goal.returns-clause-bytes
@@ -24,7 +24,7 @@ returns-clause-bytes c =
     written_all c.args.out.now c.loop-i.out c.args.gpt.now.entries c.loop-i.i c.told-out count (omega (arith, c.slots-slot-items.ensures.count))
     (λ k lt. c.loop-i.invariant.long k (omega (arith, c.slots-slot-items.ensures.count))) c.loop-i.invariant.written
 
-slots : (c : goal.After-loop-i) → (k : ℕ) → k < 128 → slot_at c.loop-i.out k ≡ kept (get_or c.args.gpt.now.entries k None)
+slots : (c : goal.After-loop-i) → (k : ℕ) → k < 128 → slot_at c.loop-i.out k ≡ kept_entry (get_or c.args.gpt.now.entries k None)
 slots c k small =
     let count : length c.args.gpt.now.entries ≡ 128 = ap length (sym c.slots-slot-items.ensures.slots) ∙ c.slots-slot-items.ensures.count in
     ap (λ a. slot_at a k) (returns-clause-bytes c)

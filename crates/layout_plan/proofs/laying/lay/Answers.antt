@@ -4,7 +4,7 @@ use Rattle.std.proofs.lemmas.List.{length-map}
 use Rattle.layout_plan.specs.declared.line.Piece.{Piece}
 use Rattle.layout_plan.specs.declared.part.Part.{Part}
 use Rattle.layout_plan.specs.Layouts.{IsLayout}
-use Rattle.layout_plan.specs.Plans.{piece_of}
+use Rattle.layout_plan.specs.Plans.{laid_piece}
 use Rattle.layout_plan.specs.Wishes.{settled}
 use Rattle.layout_plan.proofs.Remains.{few_laid, laid_parts, small_part}
 use Rattle.layout_plan.proofs.Settled.{remaining_stays}
@@ -22,14 +22,14 @@ lay_out-requires-clause-few c =
     let task = c.args.task.now in
     let laid = c.in_ok-parts.parts.items in
     rw (c.deref-3.ensures.value, c.in_ok-pieces.ensures.pieces, c.deref-2.ensures.value)
-    (omega (arith, length-map laid (piece_of c.deref.result.now), few_laid task.kind task.wishes.now task.parts.now laid task.source c.in_ok-parts.ensures.same_parts))
+    (omega (arith, length-map laid (laid_piece c.deref.result.now), few_laid task.kind task.wishes.now task.parts.now laid task.source c.in_ok-parts.ensures.same_parts))
 
 pub returns : goal.returns
 returns c =
     let task = c.args.task.now in
     let laid = c.in_ok-parts.parts.items in
     let all = settled c.args.sectors task.wishes.now in
-    let pieces : c.deref-3.result.now ≡ map (piece_of all) laid =
+    let pieces : c.deref-3.result.now ≡ map (laid_piece all) laid =
     rw (c.deref-3.ensures.value, c.in_ok-pieces.ensures.pieces, c.deref-2.ensures.value, c.deref.ensures.value, c.in_ok-wishes.ensures) refl in
     let Remain : List Part → Type 0 = λ rest. IsPermutation rest laid in
     let Stand : List Piece → Type 0 = λ pieces. IsLayout task.layout.now.align c.begin.result pieces c.in_ok-line.line.spots.items in

@@ -1,7 +1,7 @@
 use Rattle.std.proofs.Common.{◌≡◌, ◌≤◌, ℕ, List, arith, subst, sym, ◌∙◌}
 use Rattle.std.proofs.lemmas.Result.{err_from_is_err_and}
 use Rattle.layout_plan.specs.declared.wish.Wish.{Wish}
-use Rattle.layout_plan.specs.Faults.{IsDue}
+use Rattle.layout_plan.specs.Faults.{PassesRules}
 use Rattle.layout_plan.specs.Layouts.{last_end}
 use Rattle.layout_plan.specs.Plans.{ArePlaced, IsExtra, IsRight}
 use Rattle.layout_plan.specs.Tables.{HasRoom, floor_of, limit_of}
@@ -48,7 +48,7 @@ returns c =
     let new_limit : c.new.result.limit ≡ limit_of kind c.args.sectors = c.new.ensures.limit ∙ is_limit in
     let fits : last_end (floor_of kind) spots ≤ limit_of kind c.args.sectors = omega (arith, is_last, is_limit, out.fits) in
     let room : HasRoom kind c.args.sectors = record { enough = omega (arith, c.least_sectors.ensures); not_too_many = omega arith } in
-    let due : IsDue kind parts wishes c.args.sectors = record { room = room; asked = fine; lengths = c.in_ok-judge_lengths.ensures.fine } in
+    let due : PassesRules kind parts wishes c.args.sectors = record { room = room; asked = fine; lengths = c.in_ok-judge_lengths.ensures.fine } in
     let Right : ℕ → Type 0 = λ limit. IsRight kind parts wishes layout limit sectors (flexible_part wishes parts) in
     let right = subst Right is_limit out.right in
     let Are : List Wish → Type 0 = λ all. ArePlaced all parts laid spots placed in

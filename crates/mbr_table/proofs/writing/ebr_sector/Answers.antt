@@ -1,6 +1,6 @@
 use Rattle.std.proofs.Common.{◌≡◌, subst, sym, ap, ◌∙◌, arith}
 use Rattle.mbr_table.specs.Signature.{HasSignature}
-use Rattle.mbr_table.specs.Slot.{slot_of, kept, entry_of}
+use Rattle.mbr_table.specs.Slot.{slot_of, kept_slot, slot_entry}
 use Rattle.mbr_table.specs.Chain.{own_of, next_of}
 use Rattle.mbr_table.proofs.Records.{record_written, record_signed, own_reads_back, next_reads_back, start_back}
 use Rattle.mbr_table.proofs.writing.ebr_sector.Goals as goal
@@ -13,7 +13,7 @@ returns-clause-bytes c =
 
 pub returns-clause-own : goal.returns-clause-own
 returns-clause-own c =
-    let back : slot_of (entry_of c.args.own.now) ≡ kept c.args.own.now = ap slot_of (sym c.entry.ensures.bytes) ∙ c.entry.ensures.read_back in
+    let back : slot_of (slot_entry c.args.own.now) ≡ kept_slot c.args.own.now = ap slot_of (sym c.entry.ensures.bytes) ∙ c.entry.ensures.read_back in
     ap own_of (returns-clause-bytes c) ∙ own_reads_back c.args.own.now c.args.next back
 
 pub returns-clause-next : goal.returns-clause-next

@@ -1,5 +1,5 @@
 -- Clearing, filling and the new sector 0, each with what a stop meanwhile leaves.
-use Rattle.std.proofs.Common.{rules, ◌≡◌, ℕ, ◌*◌, ◌<◌, ◌≤◌, List, length, ap, sym, ◌∙◌, subst, replicate, inl, inr, refl, arith}
+use Rattle.std.proofs.Common.{◌≡◌, ℕ, ◌*◌, ◌≤◌, List, length, ap, sym, ◌∙◌, subst, replicate, inl, inr, refl, arith}
 use Rattle.disk_base.specs.Image.{with_bytes, HalfWritten}
 use Rattle.disk_base.specs.Stops.{IsSettled, Adds, adds_on}
 use Rattle.disk_base.proofs.Moments.{leaves_only}

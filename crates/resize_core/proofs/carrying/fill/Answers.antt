@@ -1,5 +1,5 @@
 -- Two copies, both behind sector 0.
-use Rattle.std.proofs.Common.{List, ℕ, ◌-◌, ◌≡◌, length, subst}
+use Rattle.std.proofs.Common.{List, ℕ, ◌-◌, length, subst}
 use Rattle.disk_base.specs.Stops.{Follows}
 use Rattle.disk_base.proofs.Moments.{follows_on, follows_weaker}
 use Rattle.run_copy.specs.declared.transfer.Transfer.{Transfer}

@@ -1,6 +1,7 @@
 -- The work of the table that judging the source gave.
 use Rattle.std.proofs.lemmas.Result.{err_from_is_err_and}
 use Rattle.std.proofs.Common.{◌≡◌, ℕ, sym, subst, ◌∙◌}
+use Rattle.mbr_table.specs.Mbr.{plain_table}
 use Rattle.resize_core.specs.Placing.{IsPlacing}
 use Rattle.resize_core.specs.Targets.{IsReady}
 use Rattle.disk_base.specs.Image.{sectors_of}
@@ -8,34 +9,36 @@ use Rattle.resize_core.proofs.SourceLemmas.{sectors_is}
 use Rattle.resize_core.proofs.WorkLemmas.{unready_of}
 use Rattle.resize_core.proofs.job.prepare.Goals as goal
 
-pub returns-in_err-mbr-clause-stop : goal.returns-in_err-mbr-clause-stop
-returns-in_err-mbr-clause-stop g c =
+pub returns-in_err-table-clause-stop : goal.returns-in_err-table-clause-stop
+returns-in_err-table-clause-stop g c =
     let p = err_from_is_err_and c.from_residual.result c.from_residual.ensures.1 in
-    rw (p.1, p.2) (λ t target is. c.in_err-mbr.ensures.stop t target)
+    rw (p.1, p.2) (λ t target is. c.in_err-table.ensures.stop t target)
 
 pub returns-in_err-prepared-clause-stop : goal.returns-in_err-prepared-clause-stop
 returns-in_err-prepared-clause-stop g c =
     let p = err_from_is_err_and c.from_residual-in_err-prepared.result c.from_residual-in_err-prepared.ensures.1 in
-    rw (p.1, p.2) (λ t target is. unready_of _ target c.args.sectors c.in_ok-mbr.mbr _ (c.in_ok-mbr.ensures.table t) is c.in_err-prepared.ensures.refused)
+    rw (p.1, p.2) (λ t target is. unready_of _ target c.args.sectors (plain_table c.in_ok-table.table.table) _ (c.in_ok-table.ensures.served t) is c.in_err-prepared.ensures.refused)
 
 pub returns-clause-work : goal.returns-clause-work
 returns-clause-work g c = λ t target is.
-    let size : sectors_of (g.S.Blocks.image c.args.source.now) ≡ g.S.Blocks.size c.judge.new.source =
-    sectors_is _ _ (g.met.S.Blocks.whole _ t) ∙ sym (g.met.S.Blocks.same_size _ _ c.in_ok-mbr.ensures.read) in
-    let From : ℕ → Type 0 = λ n. IsReady n c.args.sectors c.in_ok-mbr.mbr c.in_ok-prepared.prepared.ready in
-    let To : ℕ → Type 0 = λ n. IsReady (sectors_of (g.S.Blocks.image c.args.source.now)) n c.in_ok-mbr.mbr c.in_ok-prepared.prepared.ready in
-    let Placed : ℕ → Type 0 = λ n. IsPlacing n c.args.sectors c.in_ok-mbr.mbr.slots c.in_ok-prepared.prepared.ready.plan in
-    let PlacedTo : ℕ → Type 0 = λ n. IsPlacing (sectors_of (g.S.Blocks.image c.args.source.now)) n c.in_ok-mbr.mbr.slots c.in_ok-prepared.prepared.ready.plan in
+    let found = c.in_ok-table.table in
+    let work = c.in_ok-prepared.prepared.ready in
+    let size : sectors_of (g.S.Blocks.image c.args.source.now) ≡ found.sectors =
+    sectors_is _ _ (g.met.S.Blocks.whole _ t) ∙ sym c.in_ok-table.ensures.sectors in
+    let From : ℕ → Type 0 = λ n. IsReady n c.args.sectors (plain_table found.table) work in
+    let To : ℕ → Type 0 = λ n. IsReady (sectors_of (g.S.Blocks.image c.args.source.now)) n (plain_table found.table) work in
+    let Placed : ℕ → Type 0 = λ n. IsPlacing n c.args.sectors found.table.slots work.plan in
+    let PlacedTo : ℕ → Type 0 = λ n. IsPlacing (sectors_of (g.S.Blocks.image c.args.source.now)) n found.table.slots work.plan in
     record {
-      table = c.in_ok-mbr.mbr;
+      table = plain_table found.table;
       is_work = record {
-        served = c.in_ok-mbr.ensures.table t;
+        served = c.in_ok-table.ensures.served t;
         apart = c.in_ok-prepared.ensures.apart;
-        ready = subst To (sym is) (subst From (sym size) c.in_ok-prepared.ensures.work);
+        ready = subst To (sym is) (subst From (sym size) c.in_ok-prepared.ensures.work.ready);
       };
-      placing = subst PlacedTo (sym is) (subst Placed (sym size) c.in_ok-prepared.ensures.placed);
+      placing = subst PlacedTo (sym is) (subst Placed (sym size) c.in_ok-prepared.ensures.work.placed);
       lines = c.in_ok-prepared.ensures.summary;
     }
 
 pub returns-clause-from : goal.returns-clause-from
-returns-clause-from g c = c.in_ok-prepared.ensures.work.from ∙ g.met.S.Blocks.same_size _ _ c.in_ok-mbr.ensures.read
+returns-clause-from g c = c.in_ok-prepared.ensures.work.ready.from ∙ c.in_ok-table.ensures.sectors

@@ -1,4 +1,4 @@
-use Rattle.resize_core.specs.Parts.{MeetsNone}
+use Rattle.resize_core.specs.inside.Meetings.{MeetsNone}
 use Rattle.resize_core.proofs.parts.first_meeting.Given as goal
 
 abbrev pub invariant-loop-l : goal.invariant-loop-l

@@ -1,5 +1,5 @@
 use Rattle.std.proofs.Common.{ℕ, ◌<◌}
-use Rattle.resize_core.specs.Parts.{MeetsNone}
+use Rattle.resize_core.specs.inside.Meetings.{MeetsNone}
 use Rattle.resize_core.proofs.parts.overlap.Given as goal
 
 abbrev pub invariant-loop-k : goal.invariant-loop-k

@@ -6,34 +6,37 @@ use Rattle.mbr_table.specs.Mbr.{mbr_sector_of}
 use Rattle.run_copy.specs.declared.transfer.Transfer.{Transfer}
 use Rattle.resize_core.specs.Finished.{IsCarriable}
 use Rattle.resize_core.specs.Parts.{parts_of}
-use Rattle.resize_core.specs.Targets.{boot_end, target_slots, transfers_of}
+use Rattle.resize_core.specs.Targets.{boot_end, transfers_of}
 use Rattle.resize_core.proofs.Placing.{all_named, carriable}
 use Rattle.resize_core.proofs.preparing.work.Goals as goal
 
 pub transfers-requires : goal.transfers-requires
-transfers-requires c = all_named c.args.source_sectors c.args.target_sectors c.args.mbr.now.slots c.args.planned c.requires.placing
+transfers-requires c = all_named c.args.source.now.sectors c.args.target_sectors c.args.source.now.table.slots c.args.planned c.requires.placing
 
 pub slots_to-requires-clause-named : goal.slots_to-requires-clause-named
-slots_to-requires-clause-named c = all_named c.args.source_sectors c.args.target_sectors c.args.mbr.now.slots c.args.planned c.requires.placing
+slots_to-requires-clause-named c = all_named c.args.source.now.sectors c.args.target_sectors c.args.source.now.table.slots c.args.planned c.requires.placing
 
 pub invariant_of-result : goal.invariant_of-result
 invariant_of-result c =
-    let boot_is : c.boot-boot.result ≡ boot_end (parts_of c.args.mbr.now.slots) c.args.planned =
+    let slots = c.args.source.now.table.slots in
+    let boot_is : c.boot-boot.result ≡ boot_end (parts_of slots) c.args.planned =
     c.boot-boot.ensures ∙ ap (λ (parts : List Part). boot_end parts c.args.planned) c.requires.parts in
-    let transfers_are : c.in_ok-transfers.transfers.items ≡ transfers_of c.args.mbr.now.slots c.args.planned =
-    c.in_ok-transfers.ensures ∙ ap (λ (slots : List Slot). transfers_of slots c.args.planned) c.slots-slots.ensures in
-    let AtBoot : ℕ → Type 0 = λ boot. IsCarriable c.args.source_sectors c.args.target_sectors boot (transfers_of c.args.mbr.now.slots c.args.planned) in
-    let With : List Transfer → Type 0 = λ transfers. IsCarriable c.args.source_sectors c.args.target_sectors c.boot-boot.result transfers in
-    subst With (sym transfers_are) (subst AtBoot (sym boot_is)
-    (carriable c.args.source_sectors c.args.target_sectors c.args.mbr.now.slots c.args.planned c.requires.placing))
+    let AtBoot : ℕ → Type 0 = λ boot. IsCarriable c.args.source.now.sectors c.args.target_sectors boot (transfers_of slots c.args.planned) in
+    let With : List Transfer → Type 0 = λ transfers. IsCarriable c.args.source.now.sectors c.args.target_sectors c.boot-boot.result transfers in
+    subst With (sym c.in_ok-transfers.ensures) (subst AtBoot (sym boot_is)
+    (carriable c.args.source.now.sectors c.args.target_sectors slots c.args.planned c.requires.placing))
 
-pub returns-clause-ready : goal.returns-clause-ready
-returns-clause-ready c = record {
-  plan = c.requires.placing.is_plan;
-  sector = c.mbr_sector.ensures.bytes ∙ ap (λ (head : List ℕ). mbr_sector_of head c.slots_to.result) c.head.ensures
-      ∙ ap (λ (slots : List Slot). mbr_sector_of c.args.mbr.now.head slots) (c.slots_to.ensures ∙ ap (λ (slots : List Slot). target_slots slots c.args.planned) c.slots-slots.ensures);
-  boot = c.boot-boot.ensures ∙ ap (λ (parts : List Part). boot_end parts c.args.planned) c.requires.parts;
-  transfers = c.in_ok-transfers.ensures ∙ ap (λ (slots : List Slot). transfers_of slots c.args.planned) c.slots-slots.ensures;
-  from = refl;
-  to = refl;
+pub returns : goal.returns
+returns c = record {
+  ready = record {
+    ready = record {
+      plan = c.requires.placing.is_plan;
+      sector = c.mbr_sector.ensures.bytes ∙ ap (λ (slots : List Slot). mbr_sector_of c.args.source.now.table.head slots) c.slots_to.ensures;
+      boot = c.boot-boot.ensures ∙ ap (λ (parts : List Part). boot_end parts c.args.planned) c.requires.parts;
+      transfers = c.in_ok-transfers.ensures;
+      from = refl;
+      to = refl;
+    };
+    placed = c.requires.placing;
+  };
 }

@@ -3,7 +3,8 @@ use Rattle.std.proofs.Common.{◌≡◌, ℕ, ◌+◌, ◌-◌, ◌*◌, ◌<◌
 use Rattle.disk_base.proofs.Images.{agrees_on}
 use Rattle.disk_base.proofs.Moments.{follows_on}
 use Rattle.disk_base.proofs.Uses.{used_on}
-use Rattle.run_copy.specs.Copies.{IsCopied, OnlyIn, piece_of, put_of}
+use Rattle.run_copy.specs.Copies.{IsCopied, OnlyIn, piece_of}
+use Rattle.run_copy.specs.inside.Puts.{put_of}
 use Rattle.run_copy.proofs.Copies.{piece_more}
 use Rattle.run_copy.proofs.copying.copy_run.Goals as goal
 

@@ -1,7 +1,7 @@
 use Rattle.std.proofs.Common.{◌<◌, ltb, rules, length, All, sym}
 use Rattle.std.proofs.lemmas.List.{take_all}
 use Rattle.std.proofs.lemmas.List.Sorted.{IsPartitionPoint-from_clause, IsPartitionedBy-ltb}
-use Rattle.run_set.specs.Runs.{end_of}
+use Rattle.run_set.specs.Runs.{past_of}
 use Rattle.run_set.proofs.Rising.{ends_rise, last_ends_below, last_starts_by, all_below_place, all_past_place}
 use Rattle.run_set.proofs.run.place.Goals as goal
 
@@ -12,14 +12,14 @@ returns-then-ends_below-clause-below c =
 
 pub returns-clause-below : goal.returns-clause-below
 returns-clause-below c =
-    let parted = IsPartitionedBy-ltb end_of c.args.runs.now c.args.number (ends_rise c.args.runs.now c.requires) in
-    let point = IsPartitionPoint-from_clause (λ run. ltb (end_of run) c.args.number) _ _ c.partition_point.ensures.partitioned parted (λ a r q k. search rules) in
+    let parted = IsPartitionedBy-ltb past_of c.args.runs.now c.args.number (ends_rise c.args.runs.now c.requires) in
+    let point = IsPartitionPoint-from_clause (λ run. ltb (past_of run) c.args.number) _ _ c.partition_point.ensures.partitioned parted (λ a r q k. search rules) in
     all_below_place c.args.runs.now c.args.number c.partition_point.result c.partition_point.ensures.bound point.0
 
 pub returns-clause-rest : goal.returns-clause-rest
 returns-clause-rest c =
-    let parted = IsPartitionedBy-ltb end_of c.args.runs.now c.args.number (ends_rise c.args.runs.now c.requires) in
-    let point = IsPartitionPoint-from_clause (λ run. ltb (end_of run) c.args.number) _ _ c.partition_point.ensures.partitioned parted (λ a r q k. search rules) in
+    let parted = IsPartitionedBy-ltb past_of c.args.runs.now c.args.number (ends_rise c.args.runs.now c.requires) in
+    let point = IsPartitionPoint-from_clause (λ run. ltb (past_of run) c.args.number) _ _ c.partition_point.ensures.partitioned parted (λ a r q k. search rules) in
     all_past_place c.args.runs.now c.args.number c.partition_point.result point.1
 
 pub returns-then-last-number-clause-below : goal.returns-then-last-number-clause-below

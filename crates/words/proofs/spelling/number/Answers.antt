@@ -2,7 +2,7 @@ use Rattle.std.proofs.Common.{◌≡◌, ◌<◌, ◌*◌, ◌+◌, ◌-◌, tak
 use Rattle.std.proofs.lemmas.Grind.{common_steps}
 use Rattle.std.proofs.lemmas.List.Sums.{fold_more}
 use Rattle.words.proofs.Powers.{next_power, power_fits}
-use Rattle.words.specs.Numbers.{number_of, with_digit}
+use Rattle.words.specs.Numbers.{spelled_number, with_digit}
 use Rattle.words.proofs.spelling.number.Goals as goal
 
 pub overflow_mul-number : goal.overflow_mul-number
@@ -19,7 +19,7 @@ loop-byte-preserved c =
     let is : c.from.result ≡ get_or ds i 0 - 48 = c.from.ensures ∙ c.saturating_sub.ensures in
     let byte : get_or ds i 0 < 256 = omega (arith, c.type_inv.digits i) in
     record {
-      value = ap (λ n. 10 * n + c.from.result) c.loop-byte.invariant.value ∙ ap (λ d. 10 * number_of (take i ds) + d) is ∙ sym more;
+      value = ap (λ n. 10 * n + c.from.result) c.loop-byte.invariant.value ∙ ap (λ d. 10 * spelled_number (take i ds) + d) is ∙ sym more;
       small = omega (arith, next_power c.loop-byte.number (get_or ds i 0) i c.loop-byte.invariant.small byte);
     }
 

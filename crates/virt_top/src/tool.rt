@@ -1,8 +1,11 @@
-//! The words of the command line, read by hand.
+//! What the words name, and which jobs are served.
 ghost use Rattle.std.specs.Prelude.{◌≡◌, map, codes, string_bytes};
 ghost use Rattle.std.specs.Str.{bytes_eq};
-ghost use Rattle.virt_top.specs.Words.{are_names, is_job, is_option, tool_of, word_at};
+ghost use Rattle.virt_top.specs.Words.{is_plain, tool_named, word_at};
 ghost use Rattle.virt_top.specs.Lines.{tool_text};
+
+use layout_plan::Layout;
+use words::{ResizeJob, Unknown};
 
 /// What the first word names.
 #[derive(Clone, Copy, Debug, PartialEq, Eq)]
@@ -13,29 +16,18 @@ pub enum Tool {
     Unnamed,
 }
 
-// Whether a word is an option: it begins with `-` and goes on.
-fn is_option(word: &str) -> bool
-    ensures { result ≡ is_option word.now }
+/// Whether a job has no wishes and no options.
+pub fn is_plain(job: &ResizeJob) -> bool
+    ensures { result ≡ is_plain job.now }
 {
-    let bytes = word.as_bytes();
-    bytes.len() > 1 && bytes[0] == b'-'
-}
-
-// Whether these are virt-resize and the names of two disks.
-fn are_names(tool: &str, source: &str, target: &str) -> bool
-    ensures { result ≡ are_names tool.now source.now target.now }
-{
-    tool == "virt-resize" && !is_option(source) && !is_option(target) && source != target
-}
-
-/// Whether the words are virt-resize and the names of two disks.
-pub fn is_job(words: &[String]) -> bool
-    ensures { result ≡ is_job (map string_bytes words.now) }
-{
-    if words.len() != 3 {
-        return false;
-    }
-    are_names(words[0].as_str(), words[1].as_str(), words[2].as_str())
+    let Layout {
+        align,
+        always,
+        extra,
+    } = job.layout;
+    let asks = !job.wishes.items().is_empty() || !job.lvs.items().is_empty();
+    let copies = job.boot && job.grow && job.unknown == Unknown::Warn && job.sparse;
+    !asks && align == 128 && !always && extra && copies && !job.dry && !job.quiet
 }
 
 // The first word, or nothing.
@@ -50,7 +42,7 @@ fn first_word(words: &[String]) -> &str
 
 /// The tool that the first word names.
 pub fn tool_of(words: &[String]) -> Tool
-    ensures { result ≡ tool_of (map string_bytes words.now) }
+    ensures { result ≡ tool_named (map string_bytes words.now) }
 {
     let word = first_word(words);
     if word == "virt-resize" {
