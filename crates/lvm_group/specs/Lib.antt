@@ -1,0 +1,9 @@
+pub mod Apart
+pub mod Lookup
+pub mod Spelt
+pub mod Judged
+pub mod Order
+pub mod Volumes
+pub mod Free
+pub mod Answer
+pub mod inside

@@ -1,0 +1,59 @@
+//! Why an area has no text.
+ghost use Rattle.std.specs.Prelude.{◌≡◌};
+ghost use Rattle.lvm_label.specs.declared.fault.RingFault.TheVariants as faults;
+
+use disk_base::Failed;
+use std::alloc::{AllocError, AllocFailed};
+use thiserror::Error;
+
+/// Why an area has no text. The first that holds is named, but for `Place`, which also stands between `Empty`
+/// and `Checksum`.
+#[derive(Clone, Copy, Debug, PartialEq, Eq, Error)]
+pub enum RingFault {
+    /// The area doesn't lie in the volume in whole sectors, or has fewer than 1024 bytes or more than 2^26; or
+    /// its text begins outside the part behind the header, has no byte, or is longer than that part.
+    #[error("Place")]
+    Place,
+    /// The area's first sector has a wrong checksum, magic or version, or names another place or length.
+    #[error("Header")]
+    Header,
+    /// The text is to be ignored, by bit 0 of its flags.
+    #[error("Ignored")]
+    Ignored,
+    /// No text is named: its offset and size are both zero.
+    #[error("Empty")]
+    Empty,
+    /// The text has another checksum.
+    #[error("Checksum")]
+    Checksum,
+    /// The disk failed.
+    #[error("Device")]
+    Device,
+    /// Memory was refused.
+    #[error("Memory")]
+    Memory,
+}
+
+impl From<Failed> for RingFault {
+    ghost from_gives = { λ _ fault. fault ≡ faults.Device };
+
+    fn from(_failed: Failed) -> RingFault {
+        RingFault::Device
+    }
+}
+
+impl From<AllocError> for RingFault {
+    ghost from_gives = { λ _ fault. fault ≡ faults.Memory };
+
+    fn from(_refused: AllocError) -> RingFault {
+        RingFault::Memory
+    }
+}
+
+impl<T: Drop> From<AllocFailed<T>> for RingFault {
+    ghost from_gives = { λ _ fault. fault ≡ faults.Memory };
+
+    fn from(_refused: AllocFailed<T>) -> RingFault {
+        RingFault::Memory
+    }
+}

@@ -1,0 +1,6 @@
+pub mod Tree
+pub mod Tokens
+pub mod Grammar
+pub mod Faults
+pub mod Written
+pub mod inside
