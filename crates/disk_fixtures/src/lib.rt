@@ -8,6 +8,8 @@
 #![tactic(auto)]
 
 mod mkfs;
+mod tree;
 mod xfs;
 
+pub use tree::{IDENTITY, TreeBlock};
 pub use xfs::{Header, Volume, made, resum};

@@ -4,8 +4,18 @@
 #![tactic(auto)]
 
 #[cfg(test)]
+mod forks;
+#[cfg(test)]
+mod free_space;
+#[cfg(test)]
 mod headers;
+#[cfg(test)]
+mod list_mark;
+#[cfg(test)]
+mod records;
 #[cfg(test)]
 mod superblocks;
 #[cfg(test)]
 mod texts;
+#[cfg(test)]
+mod trees;

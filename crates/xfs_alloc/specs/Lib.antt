@@ -1,0 +1,4 @@
+pub mod Free
+pub mod FreeSpace
+pub mod Laws
+pub mod inside
