@@ -52,16 +52,13 @@ pub fn group_on(alloc: Global, disk: &mut ByteDisk) -> Result<Group, Fault>
         Some(label) => label,
     };
     let tree = tree_on(alloc, disk, &label)?;
-    let part = 1;
+    let member = Member {
+        part: 1,
+        label,
+        sectors,
+    };
     let mut members = List::new(alloc);
-    if members
-        .push(Member {
-            part,
-            label,
-            sectors,
-        })
-        .is_err()
-    {
+    if members.push(member).is_err() {
         return Err(Fault::Memory);
     }
     let group = group_of(alloc, members, tree)?;
