@@ -1,12 +1,12 @@
 //! A node's children and a leaf's records, put behind those of the blocks before it.
-ghost use Rattle.std.specs.Prelude.{◌≡◌, ℕ, ◌-◌, ◌<◌, ◌≤◌, ◌++◌, map, length, slice_index_or, Bool, false, true, IsTrue, IfErr, IsErrOf, OnOk};
+ghost use Rattle.std.specs.Prelude.{◌≡◌, ℕ, ◌<◌, ◌≤◌, ◌++◌, false, IsTrue, IfErr, IsErrOf, OnOk};
 ghost use Rattle.std.specs.List.{All};
 ghost use Rattle.xfs_super.specs.Super.{geometry_of};
-ghost use Rattle.xfs_tree.specs.Block.{count_in, node_capacity, pointers, records_spelt, leads_to, LieInside};
+ghost use Rattle.xfs_tree.specs.Block.{count_in, node_capacity, records_spelt, LieInside};
 ghost use Rattle.xfs_tree.specs.Marks.{AdmitsVolume};
 ghost use Rattle.xfs_tree.specs.Tree.{AreInOrder};
-ghost use Rattle.xfs_tree.specs.inside.Reading.{AreInVolume, IsNodeFault};
-ghost use Rattle.xfs_tree.specs.inside.Rows.{setting_of_row, held_in, JudgedIn, PointersInside, NodeTaken, NodeRefused, LeafTaken, LeafRefused, LieIn};
+ghost use Rattle.xfs_tree.specs.inside.Reading.{IsNodeFault};
+ghost use Rattle.xfs_tree.specs.inside.Rows.{setting_of_row, held_in, JudgedIn, PointersInside, PointersTaken, StayInVolume, IsAfterLast, IsNotAfterLast, NodeTaken, NodeRefused, LeafTaken, LeafRefused, LieIn};
 
 use crate::block::{BLOCK, have_rising_keys, judge, pointer_in, record_in};
 use crate::claiming::{claim_all, follow};
@@ -28,7 +28,7 @@ fn push_children<R: Record>(
     requires node { 0 < row.now.height }
     requires count { count ≡ count_in bytes.now }
     requires room { count ≤ node_capacity R.form }
-    ensures children { OnOk result (below.new.items ≡ below.old.items ++ map (leads_to (setting_of_row R.form row.now)) (pointers R.form bytes.now)) }
+    ensures children { OnOk result (PointersTaken R.form row.now bytes.now below.old.items below.new.items) }
     ensures inside { OnOk result (PointersInside R.form row.now bytes.now) }
     ensures no_device { IsErrOf result TreeFault.Device → ⊥ }
     ensures fault { IfErr result (λ fault. (claimed : ℕ → ℕ)
@@ -51,8 +51,8 @@ fn push_children<R: Record>(
 
 /// Whether a record follows those before it.
 fn follows<R: Record>(records: &[R], next: &R) -> bool
-    ensures yes { IsTrue result → 0 < length records.now → (d : R) → R.form.before (slice_index_or records.now (length records.now - 1) d) next.now ≡ true }
-    ensures no { result ≡ false → (0 < length records.now) × ((d : R) → R.form.before (slice_index_or records.now (length records.now - 1) d) next.now ≡ false) }
+    ensures yes { IsTrue result → IsAfterLast R.form records.now next.now }
+    ensures no { result ≡ false → IsNotAfterLast R.form records.now next.now }
 {
     match records.last() {
         Some(last) => last.before(next),
@@ -117,7 +117,7 @@ pub(crate) fn take_node<R: Record, M: Mark>(
         (M.claimed marks.old) (M.claimed marks.new) below.old.items below.new.items) }
     ensures fault { IfErr result (NodeRefused R.form row.now (held_in row.now at bytes.now) (M.claimed marks.old)) }
     ensures no_device { IsErrOf result TreeFault.Device → ⊥ }
-    ensures inside { OnOk result (AreInVolume (geometry_of row.now.geo) below.old.items → AreInVolume (geometry_of row.now.geo) below.new.items) }
+    ensures inside { OnOk result (StayInVolume row.now below.old.items below.new.items) }
     ensures admits { (g b : ℕ) → M.admits marks.new g b ≡ M.admits marks.old g b }
 {
     let count = judge::<R>(row, at, bytes)?;

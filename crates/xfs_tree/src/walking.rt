@@ -8,7 +8,7 @@ ghost use Rattle.xfs_super.specs.Super.{geometry_of};
 ghost use Rattle.xfs_tree.specs.Marks.{AdmitsVolume, AreClaimed};
 ghost use Rattle.xfs_tree.specs.Tree.{short_levels, blocks_of, numbers_of, AreInOrder, IsShortTree, HasShortFault, ShortClaimed};
 ghost use Rattle.xfs_tree.specs.inside.Reading.{AreInVolume};
-ghost use Rattle.xfs_tree.specs.inside.Rows.{seen_in, NodeTaken, NodeRefused, LeafTaken, LeafRefused, LieIn, RowTaken, RowRefused, LeavesTaken, LeavesRefused, levels_under, TreeUnder, FaultUnder};
+ghost use Rattle.xfs_tree.specs.inside.Rows.{seen_in, StayInVolume, NodeTaken, NodeRefused, LeafTaken, LeafRefused, LieIn, RowTaken, RowRefused, LeavesTaken, LeavesRefused, levels_under, TreeUnder, FaultUnder};
 
 use crate::block::BLOCK;
 use crate::claiming::claim_all;
@@ -57,7 +57,7 @@ fn descend_from<R: Record, B: Blocks, M: Mark>(
     ensures fault { IsTrue B.tells → IfErr result
         (NodeRefused R.form row.now (seen_in row.now (B.image disk.old) at) (M.claimed marks.old)) }
     ensures device { IsErrOf result TreeFault.Device → Rose (B.faults disk.old) (B.faults disk.new) }
-    ensures inside { OnOk result (AreInVolume (geometry_of row.now.geo) below.old.items → AreInVolume (geometry_of row.now.geo) below.new.items) }
+    ensures inside { OnOk result (StayInVolume row.now below.old.items below.new.items) }
     ensures admits { (g b : ℕ) → M.admits marks.new g b ≡ M.admits marks.old g b }
 {
     read_block(disk, &row.geo, at, buffer)?;

@@ -73,21 +73,21 @@ chunk_of m a x fit =
       ap (λ (l : List ℕ). big_at 8 l 8) (sym (append_assoc (big_bytes 4 m) (big_bytes 4 a) (big_bytes 8 x))) ∙ last_back 8 8 x (big_bytes 4 m ++ big_bytes 4 a) eight t.2,
     )
 
+-- what is made of the three numbers is made of those that are read back
+chunk_back : {R : Type 0} (make : ℕ → ℕ → ℕ → R) (m a x : ℕ) → fits_chunk m a x ≡ true
+    → make (big_at 4 (chunk_bytes m a x) 0) (big_at 4 (chunk_bytes m a x) 4) (big_at 8 (chunk_bytes m a x) 8) ≡ make m a x
+chunk_back make m a x fit =
+    let t = chunk_of m a x fit in
+    let bytes : List ℕ = chunk_bytes m a x in
+    ap (λ (n : ℕ). make n (big_at 4 bytes 4) (big_at 8 bytes 8)) t.0
+    ∙ ap (λ (n : ℕ). make m n (big_at 8 bytes 8)) t.1
+    ∙ ap (λ (n : ℕ). make m a n) t.2
+
 pub by_inode_back : (r : Chunk) → by_inode.fits r ≡ true → by_inode.record_of (by_inode.bytes_of r) ≡ r
-by_inode_back r fit =
-    let t = chunk_of r.start r.freecount r.free fit in
-    let bytes : List ℕ = chunk_bytes r.start r.freecount r.free in
-    ap (λ (n : ℕ). record { start = n; freecount = big_at 4 bytes 4; free = big_at 8 bytes 8 }) t.0
-    ∙ ap (λ (n : ℕ). record { start = r.start; freecount = n; free = big_at 8 bytes 8 }) t.1
-    ∙ ap (λ (n : ℕ). record { start = r.start; freecount = r.freecount; free = n }) t.2
+by_inode_back r fit = chunk_back {R = Chunk} (λ m a x. record { start = m; freecount = a; free = x }) r.start r.freecount r.free fit
 
 pub by_free_inode_back : (r : FreeChunk) → by_free_inode.fits r ≡ true → by_free_inode.record_of (by_free_inode.bytes_of r) ≡ r
-by_free_inode_back r fit =
-    let t = chunk_of r.start r.freecount r.free fit in
-    let bytes : List ℕ = chunk_bytes r.start r.freecount r.free in
-    ap (λ (n : ℕ). record { start = n; freecount = big_at 4 bytes 4; free = big_at 8 bytes 8 }) t.0
-    ∙ ap (λ (n : ℕ). record { start = r.start; freecount = n; free = big_at 8 bytes 8 }) t.1
-    ∙ ap (λ (n : ℕ). record { start = r.start; freecount = r.freecount; free = n }) t.2
+by_free_inode_back r fit = chunk_back {R = FreeChunk} (λ m a x. record { start = m; freecount = a; free = x }) r.start r.freecount r.free fit
 
 -- chunks that may have holes
 five : (m h c f x : ℕ) → fits_sparse m h c f x ≡ true → (m < 2 ^ 32) × (h < 2 ^ 16) × (x < 2 ^ 64)
@@ -127,25 +127,28 @@ sparse_of m h c f x fit =
       free = ap (λ (l : List ℕ). big_at 8 l 8) (whole ∙ sym (append_assoc front (c ∷ f ∷ []) (big_bytes 8 x))) ∙ last_back 8 8 x (front ++ (c ∷ f ∷ [])) eight t.2;
     }
 
+-- what is made of the five numbers is made of those that are read back
+sparse_back : {R : Type 0} (make : ℕ → ℕ → ℕ → ℕ → ℕ → R) (m h c f x : ℕ) → fits_sparse m h c f x ≡ true
+    → make (big_at 4 (sparse_bytes m h c f x) 0) (big_at 2 (sparse_bytes m h c f x) 4) (slice_index (sparse_bytes m h c f x) 6)
+    (slice_index (sparse_bytes m h c f x) 7) (big_at 8 (sparse_bytes m h c f x) 8) ≡ make m h c f x
+sparse_back make m h c f x fit =
+    let t = sparse_of m h c f x fit in
+    let bytes : List ℕ = sparse_bytes m h c f x in
+    ap (λ (n : ℕ). make n (big_at 2 bytes 4) (slice_index bytes 6) (slice_index bytes 7) (big_at 8 bytes 8)) t.start
+    ∙ ap (λ (n : ℕ). make m n (slice_index bytes 6) (slice_index bytes 7) (big_at 8 bytes 8)) t.holemask
+    ∙ ap (λ (n : ℕ). make m h n (slice_index bytes 7) (big_at 8 bytes 8)) t.count
+    ∙ ap (λ (n : ℕ). make m h c n (big_at 8 bytes 8)) t.freecount
+    ∙ ap (λ (n : ℕ). make m h c f n) t.free
+
 pub by_sparse_inode_back : (r : SparseChunk) → by_sparse_inode.fits r ≡ true → by_sparse_inode.record_of (by_sparse_inode.bytes_of r) ≡ r
 by_sparse_inode_back r fit =
-    let t = sparse_of r.start r.holemask r.count r.freecount r.free fit in
-    let bytes : List ℕ = sparse_bytes r.start r.holemask r.count r.freecount r.free in
-    ap (λ (n : ℕ). record { start = n; holemask = big_at 2 bytes 4; count = slice_index bytes 6; freecount = slice_index bytes 7; free = big_at 8 bytes 8 }) t.start
-    ∙ ap (λ (n : ℕ). record { start = r.start; holemask = n; count = slice_index bytes 6; freecount = slice_index bytes 7; free = big_at 8 bytes 8 }) t.holemask
-    ∙ ap (λ (n : ℕ). record { start = r.start; holemask = r.holemask; count = n; freecount = slice_index bytes 7; free = big_at 8 bytes 8 }) t.count
-    ∙ ap (λ (n : ℕ). record { start = r.start; holemask = r.holemask; count = r.count; freecount = n; free = big_at 8 bytes 8 }) t.freecount
-    ∙ ap (λ (n : ℕ). record { start = r.start; holemask = r.holemask; count = r.count; freecount = r.freecount; free = n }) t.free
+    sparse_back {R = SparseChunk} (λ m h c f x. record { start = m; holemask = h; count = c; freecount = f; free = x })
+    r.start r.holemask r.count r.freecount r.free fit
 
 pub by_free_sparse_inode_back : (r : FreeSparseChunk) → by_free_sparse_inode.fits r ≡ true → by_free_sparse_inode.record_of (by_free_sparse_inode.bytes_of r) ≡ r
 by_free_sparse_inode_back r fit =
-    let t = sparse_of r.start r.holemask r.count r.freecount r.free fit in
-    let bytes : List ℕ = sparse_bytes r.start r.holemask r.count r.freecount r.free in
-    ap (λ (n : ℕ). record { start = n; holemask = big_at 2 bytes 4; count = slice_index bytes 6; freecount = slice_index bytes 7; free = big_at 8 bytes 8 }) t.start
-    ∙ ap (λ (n : ℕ). record { start = r.start; holemask = n; count = slice_index bytes 6; freecount = slice_index bytes 7; free = big_at 8 bytes 8 }) t.holemask
-    ∙ ap (λ (n : ℕ). record { start = r.start; holemask = r.holemask; count = n; freecount = slice_index bytes 7; free = big_at 8 bytes 8 }) t.count
-    ∙ ap (λ (n : ℕ). record { start = r.start; holemask = r.holemask; count = r.count; freecount = n; free = big_at 8 bytes 8 }) t.freecount
-    ∙ ap (λ (n : ℕ). record { start = r.start; holemask = r.holemask; count = r.count; freecount = r.freecount; free = n }) t.free
+    sparse_back {R = FreeSparseChunk} (λ m h c f x. record { start = m; holemask = h; count = c; freecount = f; free = x })
+    r.start r.holemask r.count r.freecount r.free fit
 
 -- what lies in a group lies in it when the volume grew
 wider : (a b c x : ℕ) → a ≤ b → nat_le x (a * c) ≡ true → nat_le x (b * c) ≡ true

@@ -39,10 +39,15 @@ second_back m n short =
 pub whole_key : (m n : ℕ) → take 8 (two_numbers m n) ≡ two_numbers m n
 whole_key m n = take_all 8 (two_numbers m n) (omega (arith, two_length m n))
 
+-- what is made of two numbers is made of those that are read back
+pub two_back : {R : Type 0} (make : ℕ → ℕ → R) (m n : ℕ) → are_short m n ≡ true
+    → make (big_at 4 (two_numbers m n) 0) (big_at 4 (two_numbers m n) 4) ≡ make m n
+two_back make m n short =
+    ap (λ (k : ℕ). make k (big_at 4 (two_numbers m n) 4)) (first_back m n short) ∙ ap (λ (k : ℕ). make m k) (second_back m n short)
+
 -- the records by start
 pub by_start_back : (r : ByStart) → are_short r.start r.count ≡ true → by_start.record_of (by_start.bytes_of r) ≡ r
-by_start_back r short =
-    ap (λ (m : ℕ). record { start = m; count = big_at 4 (two_numbers r.start r.count) 4 }) (first_back r.start r.count short) ∙ ap (λ (n : ℕ). record { start = r.start; count = n }) (second_back r.start r.count short)
+by_start_back r short = two_back {R = ByStart} (λ m n. record { start = m; count = n }) r.start r.count short
 
 pub by_start_strict : (r : ByStart) → by_start.before r r ≡ false
 by_start_strict r = grind (arith, nat_tests)
@@ -63,8 +68,7 @@ by_start_keys r s a b p =
 
 -- the records by count
 pub by_count_back : (r : ByCount) → are_short r.start r.count ≡ true → by_count.record_of (by_count.bytes_of r) ≡ r
-by_count_back r short =
-    ap (λ (m : ℕ). record { start = m; count = big_at 4 (two_numbers r.start r.count) 4 }) (first_back r.start r.count short) ∙ ap (λ (n : ℕ). record { start = r.start; count = n }) (second_back r.start r.count short)
+by_count_back r short = two_back {R = ByCount} (λ m n. record { start = m; count = n }) r.start r.count short
 
 pub by_count_strict : (r : ByCount) → by_count.before r r ≡ false
 by_count_strict r = grind (arith, nat_tests)

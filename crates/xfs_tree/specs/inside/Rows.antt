@@ -1,15 +1,15 @@
 -- A row of a tree: blocks of one height. What is said of it in a volume whose blocks are claimed or not.
-use Rattle.std.specs.Prelude.{◌≡◌, ℕ, IsTrue, List, ◌++◌, map}
+use Rattle.std.specs.Prelude.{◌≡◌, ℕ, ◌-◌, ◌<◌, true, false, IsTrue, List, ◌++◌, length, slice_index_or, map}
 use Rattle.std.specs.List.{All}
 use Rattle.block_claims.specs.Agreement.{block}
 use Rattle.xfs_super.specs.Super.{geometry_of}
 use Rattle.xfs_tree.specs.declared.fault.TreeFault.{TreeFault}
 use Rattle.xfs_tree.specs.declared.row.Row.{Row}
-use Rattle.xfs_tree.specs.Block.{Sight, sight, block_seen, pointers, points_inside, IsBlockFault}
+use Rattle.xfs_tree.specs.Block.{Sight, sight, block_seen, pointers, leads_to, points_inside, IsBlockFault}
 use Rattle.xfs_tree.specs.Form.{Form, Setting, setting_of}
 use Rattle.xfs_tree.specs.Marks.{Claims, marked}
 use Rattle.xfs_tree.specs.Tree.{levels_below, numbers_of, IsTree, HasTreeFault}
-use Rattle.xfs_tree.specs.inside.Reading.{HasSoundHead, IsTakenNode, IsTakenLeaf, IsTakenLevel, AreTakenLeaves, IsNodeFault, IsLevelFault, IsLeafFault, AreLeavesFault}
+use Rattle.xfs_tree.specs.inside.Reading.{AreInVolume, HasSoundHead, IsTakenNode, IsTakenLeaf, IsTakenLevel, AreTakenLeaves, IsNodeFault, IsLevelFault, IsLeafFault, AreLeavesFault}
 
 -- the tree that the row belongs to
 abbrev pub setting_of_row : {R : Type 0} → Form R → Row → Setting R
@@ -33,6 +33,14 @@ FaultIn form row at bytes = IsBlockFault (setting_of_row form row) (geometry_of 
 abbrev pub PointersInside : {R : Type 0} → Form R → Row → List ℕ → Type 0
 PointersInside form row bytes = All (λ p. IsTrue (points_inside (setting_of_row form row) (geometry_of row.geo) p)) (pointers form bytes)
 
+-- what they lead to stands behind the blocks `above`
+abbrev pub PointersTaken : {R : Type 0} → Form R → Row → List ℕ → List ℕ → List ℕ → Type 0
+PointersTaken form row bytes above below = below ≡ above ++ map (leads_to (setting_of_row form row)) (pointers form bytes)
+
+-- where the blocks `above` lie in the volume, those `below` do
+abbrev pub StayInVolume : Row → List ℕ → List ℕ → Type 0
+StayInVolume row above below = AreInVolume (geometry_of row.geo) above → AreInVolume (geometry_of row.geo) below
+
 -- a node was taken, and why it wasn't
 abbrev pub NodeTaken : {R : Type 0} → Form R → Row → Sight → Claims → Claims → List ℕ → List ℕ → Type 0
 NodeTaken form row s old new =
@@ -40,6 +48,15 @@ NodeTaken form row s old new =
 
 abbrev pub NodeRefused : {R : Type 0} → Form R → Row → Sight → Claims → TreeFault → Type 0
 NodeRefused form row s claimed = IsNodeFault (setting_of_row form row) (geometry_of row.geo) s (marked row.geo.agblocks claimed)
+
+-- a record is after the last of those before it, if there is one; there is one, and it isn't
+abbrev pub IsAfterLast : {R : Type 0} → Form R → List R → R → Type 0
+IsAfterLast {R} form records next =
+    0 < length records → (d : R) → form.before (slice_index_or records (length records - 1) d) next ≡ true
+
+abbrev pub IsNotAfterLast : {R : Type 0} → Form R → List R → R → Type 0
+IsNotAfterLast {R} form records next =
+    (0 < length records) × ((d : R) → form.before (slice_index_or records (length records - 1) d) next ≡ false)
 
 -- a leaf was taken, and why it wasn't
 abbrev pub LeafTaken : {R : Type 0} → Form R → Row → Sight → List R → List R → Type 0
