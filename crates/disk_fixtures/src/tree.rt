@@ -1,4 +1,5 @@
 //! Blocks of the trees of a group of an XFS volume.
+ghost use Rattle.disk_fixtures.specs.Sums.{IsSummed};
 
 use crate::xfs::resum;
 use disk_base::put;
@@ -25,7 +26,9 @@ pub struct TreeBlock {
 
 impl TreeBlock {
     /// The bytes of the block, with its checksum.
-    pub fn bytes(&self) -> [u8; 4096] {
+    pub fn bytes(&self) -> [u8; 4096]
+        ensures { IsSummed 52 result }
+    {
         let mut out = [0; 4096];
         put(&mut out, 0, &self.magic);
         put(&mut out, 4, &self.level.to_be_bytes());

@@ -1,5 +1,9 @@
 //! The headers of an XFS volume.
-ghost use Rattle.std.specs.Prelude.{◌+◌, ◌≤◌, length};
+ghost use Rattle.std.specs.Prelude.{◌≡◌, ◌+◌, ◌≤◌, length};
+ghost use Rattle.byteorder.specs.Endian.{little_bytes};
+ghost use Rattle.disk_base.specs.Checksum.{crc32c_without_of};
+ghost use Rattle.disk_base.specs.Image.{with_bytes};
+ghost use Rattle.disk_fixtures.specs.Sums.{IsSummed};
 
 use crate::mkfs::{
     AGF_512, AGF_4096, AGFL_512, AGFL_4096, AGI_512, AGI_4096, SUPERBLOCK_512, SUPERBLOCK_4096,
@@ -54,6 +58,8 @@ fn filled(bytes: &[u8], other: u8) -> [u8; 4096]
 /// Puts the right checksum of the bytes at byte `at`, lowest byte first.
 pub fn resum(bytes: &mut [u8], at: usize)
     requires { at + 4 ≤ length bytes.old }
+    ensures written { bytes.new ≡ with_bytes bytes.old at (little_bytes 4 (crc32c_without_of bytes.old at)) }
+    ensures summed { IsSummed at bytes.new }
 {
     let sum = crc32c_without(bytes, at);
     put(bytes, at, &sum.to_le_bytes());
