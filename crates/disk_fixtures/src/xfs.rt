@@ -3,7 +3,7 @@ ghost use Rattle.std.specs.Prelude.{◌≡◌, ◌+◌, ◌≤◌, length};
 ghost use Rattle.byteorder.specs.Endian.{little_bytes};
 ghost use Rattle.disk_base.specs.Checksum.{crc32c_without_of};
 ghost use Rattle.disk_base.specs.Image.{with_bytes};
-ghost use Rattle.disk_fixtures.specs.Sums.{IsSummed};
+ghost use Rattle.disk_fixtures.specs.Sums.{IsSummed, sum_place};
 
 use crate::mkfs::{
     AGF_512, AGF_4096, AGFL_512, AGFL_4096, AGI_512, AGI_4096, SUPERBLOCK_512, SUPERBLOCK_4096,
@@ -65,27 +65,43 @@ pub fn resum(bytes: &mut [u8], at: usize)
     put(bytes, at, &sum.to_le_bytes());
 }
 
+// Where a header holds its checksum.
+fn sum_place(header: Header) -> usize
+    ensures place { result ≡ sum_place header }
+    ensures early { result ≤ 312 }
+{
+    match header {
+        Header::Superblock => 224,
+        Header::Agf => 216,
+        Header::Agi => 312,
+        Header::Agfl => 32,
+    }
+}
+
 impl Volume {
+    ghost use Rattle.std.specs.Prelude.{◌≡◌, ◌-◌, ◌*◌, ◌≤◌, min};
+    ghost use Rattle.disk_fixtures.specs.Sums.{sector_len, sum_place, HasSummedSector};
+
     /// How many bytes a sector of the file system has.
     pub fn sector(&self) -> usize
-        ensures { (512 ≤ result) × (result ≤ 4096) }
+        ensures size { result ≡ sector_len self.now.large }
+        ensures bounds { (512 ≤ result) × (result ≤ 4096) }
     {
         if self.large { 4096 } else { 512 }
     }
 
     /// How many blocks a group has.
-    pub fn group_len(&self, group: u32) -> u32 {
+    pub fn group_len(&self, group: u32) -> u32
+        ensures { result ≡ min self.now.agblocks (self.now.dblocks - group * self.now.agblocks) }
+    {
         let before = u64::from(group) * u64::from(self.agblocks);
-        let len = self.dblocks.saturating_sub(before);
-        if len < u64::from(self.agblocks) {
-            len as u32
-        } else {
-            self.agblocks
-        }
+        u64::from(self.agblocks).min(self.dblocks.saturating_sub(before)) as u32
     }
 
     /// The superblock of the volume, in the first bytes of 4096.
-    pub fn superblock(&self) -> [u8; 4096] {
+    pub fn superblock(&self) -> [u8; 4096]
+        ensures { HasSummedSector self.now.large 224 result }
+    {
         let mut out = made(Header::Superblock, self.large);
         put(&mut out, 8, &self.dblocks.to_be_bytes());
         put(&mut out, 48, &self.logstart.to_be_bytes());
@@ -97,20 +113,28 @@ impl Volume {
         out
     }
 
-    /// The AGF, AGI or AGFL of a group, in the first bytes of 4096.
-    pub fn header(&self, header: Header, group: u32) -> [u8; 4096] {
+    // A header of a group that isn't its superblock.
+    fn of_group(&self, header: Header, group: u32) -> [u8; 4096]
+        ensures { HasSummedSector self.now.large (sum_place header) result }
+    {
         let mut out = made(header, self.large);
-        let (seqno, sum) = match header {
-            Header::Superblock => return self.superblock(),
-            Header::Agf => (8, 216),
-            Header::Agi => (8, 312),
-            Header::Agfl => (4, 32),
-        };
-        put(&mut out, seqno, &group.to_be_bytes());
-        if header != Header::Agfl {
+        if header == Header::Agfl {
+            put(&mut out, 4, &group.to_be_bytes());
+        } else {
+            put(&mut out, 8, &group.to_be_bytes());
             put(&mut out, 12, &self.group_len(group).to_be_bytes());
         }
-        resum(&mut out[..self.sector()], sum);
+        resum(&mut out[..self.sector()], sum_place(header));
         out
+    }
+
+    /// The superblock, or the AGF, AGI or AGFL of a group, in the first bytes of 4096.
+    pub fn header(&self, header: Header, group: u32) -> [u8; 4096]
+        ensures { HasSummedSector self.now.large (sum_place header) result }
+    {
+        match header {
+            Header::Superblock => self.superblock(),
+            _ => self.of_group(header, group),
+        }
     }
 }
