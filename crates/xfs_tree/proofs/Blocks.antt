@@ -1,6 +1,6 @@
 -- One block of a tree.
-use Rattle.std.proofs.Common.{◌≡◌, ℕ, zero, suc, ◌+◌, ◌-◌, ◌*◌, ◌<◌, ◌≤◌, Bool, true, false, cond, IsTrue, ◌&&◌, ◌==◌, nat_le, nat_lt, List, [], ◌∷◌, ◌++◌, length, get_or, take, drop, map, refl, sym, ap, subst, ◌∙◌, arith, length-append}
-use Rattle.std.specs.List.{All, range_with_len, flat_map}
+use Rattle.std.proofs.Common.{◌≡◌, ℕ, zero, suc, ◌+◌, ◌-◌, ◌*◌, ◌<◌, ◌≤◌, Bool, true, false, cond, IsTrue, ◌&&◌, nat_le, nat_lt, List, [], ◌∷◌, ◌++◌, length, get_or, take, drop, map, refl, sym, ap, subst, ◌∙◌, arith, length-append}
+use Rattle.std.specs.List.{All, range_with_len}
 use Rattle.std.proofs.lemmas.Bool.{false≢true}
 use Rattle.std.proofs.lemmas.Bool.Decides.{nat_tests}
 use Rattle.std.specs.Prelude.{if◌then◌else◌, ◌/◌, ◌%◌, ◌^◌}
@@ -18,7 +18,7 @@ use Rattle.disk_base.specs.Fields.{big_at}
 use Rattle.xfs_tree.specs.Form.{Form, Setting}
 use Rattle.xfs_tree.specs.declared.fault.TreeFault.{TreeFault}
 use Rattle.xfs_tree.specs.declared.fault.TreeFault.TheVariants.{Checksum, Header, Level, Order, Range, Marked, Device, Memory}
-use Rattle.xfs_tree.specs.Block.{Sight, block_seen, level_in, count_in, owner_in, is_whole, place_at, identity_at, capacity, node_capacity, pointer_at, pointers, record_at, records_spelt, records_in, children, blocks_led_to, spells, stays, block_to, leads_to, points_inside, LieInside, HaveRisingKeys, HasOrder, IsHeader, IsBlockInRange, IsSoundBlock, IsBlockFault}
+use Rattle.xfs_tree.specs.Block.{Sight, block_seen, level_in, count_in, is_whole, identity_at, capacity, node_capacity, pointer_at, pointers, record_at, records_spelt, records_in, children, blocks_led_to, spells, stays, block_to, leads_to, points_inside, LieInside, HaveRisingKeys, HasOrder, IsHeader, IsBlockInRange, IsSoundBlock, IsBlockFault}
 use Rattle.block_claims.specs.Agreement.{IsTwice}
 use Rattle.xfs_tree.specs.inside.Reading.{HasSoundHead, IsNodeFault, IsLeafFault, AreInVolume}
 use Rattle.xfs_tree.specs.Marks.{IsClaimFault}

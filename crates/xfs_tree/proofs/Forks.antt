@@ -1,6 +1,5 @@
 -- The tree of a fork: its root, and what is seen below it.
-use Rattle.std.proofs.Common.{◌≡◌, ℕ, ◌+◌, ◌-◌, ◌<◌, ◌≤◌, false, IsTrue, ◌&&◌, nat_lt, nat_le, true, List, [], length, get_or, map, inr, refl, sym, ap, subst, ◌∙◌, arith}
-use Rattle.std.specs.List.{All, range_with_len}
+use Rattle.std.proofs.Common.{◌≡◌, ℕ, ◌-◌, ◌<◌, ◌≤◌, false, ◌&&◌, nat_lt, nat_le, true, List, [], get_or, map, inr, sym, ap, subst, ◌∙◌, arith}
 use Rattle.std.proofs.lemmas.Bool.Decides.{nat_tests}
 use Rattle.std.proofs.lemmas.List.FromFn.{length-map-range_with_len, get_or-map-range_with_len}
 use Rattle.disk_base.specs.Memory.{true_is_not_false}
@@ -11,7 +10,6 @@ use Rattle.xfs_tree.specs.Block.{Sight, blocks_led_to, leads_to, points_inside}
 use Rattle.block_claims.specs.Agreement.{Claimed}
 use Rattle.xfs_tree.specs.Tree.{levels_below, blocks_of, IsTree, HasTreeFault}
 use Rattle.xfs_tree.specs.Fork.{fork_level, fork_count, fork_capacity, fork_pointer, fork_pointers, fork_blocks, levels_of_fork, spells_root, IsRootInRange, IsSoundRoot, IsTreeOfFork, HasFaultOfFork}
-use Rattle.xfs_tree.proofs.Claims.{both}
 use Rattle.xfs_tree.proofs.Blocks.{if_true, kept_all}
 
 -- a pointer of the root that lies outside is a fault

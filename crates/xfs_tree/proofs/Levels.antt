@@ -1,6 +1,6 @@
 -- One level of a tree, block by block.
 use Rattle.std.proofs.Common.{◌≡◌, ℕ, zero, suc, ◌+◌, ◌-◌, ◌*◌, ◌<◌, ◌≤◌, Bool, true, false, cond, List, [], ◌∷◌, ◌++◌, length, get_or, take, drop, map, replicate, refl, sym, ap, subst, ◌∙◌, arith, length-append, append_assoc}
-use Rattle.std.specs.List.{All, Contains, flat_map, range_with_len}
+use Rattle.std.specs.List.{Contains, flat_map, range_with_len}
 use Rattle.std.proofs.lemmas.Grind.{flat_map-append, take_at_read}
 use Rattle.std.proofs.lemmas.List.{take-append-drop, append-nil, map-append, map_push, length-replicate, get_or-replicate, get_or_append_left, get_or-append_right}
 use Rattle.std.proofs.lemmas.List.Elements.{All-push, Contains-append_left, Contains-append_right, Contains-push}
@@ -8,9 +8,9 @@ use Rattle.std.proofs.lemmas.List.FromFn.{length-map-range_with_len}
 use Rattle.xfs_super.specs.Geometry.{Geometry}
 use Rattle.xfs_tree.specs.declared.fault.TreeFault.{TreeFault}
 use Rattle.xfs_tree.specs.declared.fault.TreeFault.TheVariants.{Checksum, Header, Level, Order, Range, Marked, Device, Memory}
-use Rattle.xfs_tree.specs.Form.{Form, Setting}
+use Rattle.xfs_tree.specs.Form.{Setting}
 use Rattle.xfs_tree.specs.Block.{Sight, sight, spells, count_in, children, record_at, records_in, IsSoundBlock, IsBlockFault, Names}
-use Rattle.block_claims.specs.Agreement.{Claimed, IsTwice, times_in}
+use Rattle.block_claims.specs.Agreement.{Claimed, IsTwice}
 use Rattle.xfs_tree.specs.inside.Reading.{IsTakenNode, IsTakenLeaf, IsTakenLevel, AreTakenLeaves, IsOutBehind, IsNodeFault, IsLevelFault, IsLeafFault, AreLeavesFault}
 use Rattle.xfs_tree.specs.Marks.{IsClaimFault}
 use Rattle.xfs_tree.specs.Tree.{records_at, homes_at, HasFaultyBlock, IsOutOfOrder}

@@ -1,7 +1,7 @@
 -- What holds of trees: no fault beside a tree, one list of records, what is seen depends on the blocks that are seen alone.
 use Rattle.std.proofs.Common.{◌≡◌, ℕ, zero, suc, ◌+◌, ◌-◌, ◌*◌, ◌<◌, ◌≤◌, ◌/◌, ◌%◌, ◌^◌, true, false, Bool, ◌&&◌, nat_lt, min, IsTrue, List, [], ◌∷◌, ◌++◌, length, get_or, map, inl, inr, refl, sym, ap, subst, ◌∙◌, arith, add-one}
 use Rattle.std.specs.Prelude.{if◌then◌else◌}
-use Rattle.std.specs.List.{All, AllPairs, Contains, flat_map}
+use Rattle.std.specs.List.{All, AllPairs, flat_map}
 use Rattle.std.proofs.lemmas.Grind.{flat_map-append}
 use Rattle.std.proofs.lemmas.List.{append-nil, map-append}
 use Rattle.std.proofs.lemmas.List.Folds.{flat_map-map}
@@ -16,13 +16,13 @@ use Rattle.xfs_super.specs.Geometry.{group_len}
 use Rattle.xfs_tree.specs.Form.{IsGrown}
 use Rattle.xfs_tree.specs.Block.{Sight, sight, children, points_inside, records_in, LieInside, IsSoundBlock, IsBlockFault}
 use Rattle.block_claims.specs.Agreement.{times_in}
-use Rattle.xfs_tree.specs.Tree.{levels_below, all_sights, blocks_of, leaves_of, records_at, records_of, homes_at, AreInOrder, IsOutOfOrder, IsSoundTree, IsTree, HasFaultyBlock, HasTreeFault}
+use Rattle.xfs_tree.specs.Tree.{levels_below, all_sights, blocks_of, leaves_of, records_at, records_of, AreInOrder, IsOutOfOrder, IsSoundTree, IsTree, HasFaultyBlock, HasTreeFault}
 use Rattle.xfs_tree.specs.Laws.{SaysNothing}
 use Rattle.xfs_tree.specs.Fork.{levels_of_fork, IsRootFault, IsTreeOfFork, HasFaultOfFork}
 use Rattle.block_claims.specs.Agreement.{AgreeOn}
 use Rattle.xfs_tree.proofs.Claims.{free_excludes}
 use Rattle.block_claims.proofs.Agreements.{times_in-append, times_itself}
-use Rattle.xfs_tree.proofs.Trees.{top_blocks, blocks_at, numbers_seen}
+use Rattle.xfs_tree.proofs.Trees.{top_blocks, blocks_at}
 
 -- a sound block has no fault
 sound_block_excludes : {R : Type 0} (t : Setting R) (geo : Geometry) (s : Sight) (fault : TreeFault) → IsSoundBlock t geo s → IsBlockFault t geo s fault → ⊥

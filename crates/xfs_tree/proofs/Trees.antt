@@ -1,5 +1,5 @@
 -- A whole tree, level by level.
-use Rattle.std.proofs.Common.{◌≡◌, ℕ, zero, suc, ◌+◌, ◌-◌, ◌*◌, ◌<◌, ◌≤◌, List, [], ◌∷◌, ◌++◌, length, map, inl, inr, refl, sym, ap, subst, ◌∙◌, arith, add-one, append_assoc}
+use Rattle.std.proofs.Common.{◌≡◌, ℕ, zero, suc, ◌+◌, ◌*◌, ◌≤◌, List, [], ◌∷◌, ◌++◌, map, inl, inr, refl, sym, ap, subst, ◌∙◌, arith, add-one, append_assoc}
 use Rattle.std.specs.List.{All, Contains, flat_map}
 use Rattle.std.proofs.lemmas.Grind.{flat_map-append}
 use Rattle.std.proofs.lemmas.List.{append-nil, map-append, map_push}
@@ -8,9 +8,9 @@ use Rattle.std.proofs.lemmas.List.Elements.{All-append, All-nil, Contains-append
 use Rattle.xfs_super.specs.Geometry.{Geometry}
 use Rattle.xfs_tree.specs.declared.fault.TreeFault.{TreeFault}
 use Rattle.xfs_tree.specs.declared.fault.TreeFault.TheVariants.{Checksum, Header, Level, Order, Range, Marked, Device, Memory}
-use Rattle.xfs_tree.specs.Form.{Form, Setting}
-use Rattle.xfs_tree.specs.Block.{Sight, sight, children, IsSoundBlock, IsBlockFault}
-use Rattle.xfs_tree.specs.Marks.{IsClaimFault, Claims, AreFree, marked}
+use Rattle.xfs_tree.specs.Form.{Setting}
+use Rattle.xfs_tree.specs.Block.{Sight, sight, children, IsSoundBlock}
+use Rattle.xfs_tree.specs.Marks.{IsClaimFault, Claims, marked}
 use Rattle.block_claims.specs.Agreement.{Claimed, IsTwice, times_in}
 use Rattle.xfs_tree.specs.inside.Reading.{IsTakenLevel, AreTakenLeaves, IsLevelFault, AreLeavesFault}
 use Rattle.xfs_tree.specs.Tree.{levels_below, all_sights, blocks_of, leaves_of, records_at, records_of, AreInOrder, IsOutOfOrder, IsTree, HasFaultyBlock, HasTreeFault}

@@ -1,5 +1,5 @@
 -- Claims on blocks of a volume. How often a block is claimed is a number, 0 or 1.
-use Rattle.std.specs.Prelude.{ℕ, ◌+◌, ◌*◌, ◌/◌, ◌%◌, ◌<◌, ◌≤◌, Bool, true, if◌then◌else◌, IsTrue, List}
+use Rattle.std.specs.Prelude.{ℕ, ◌+◌, ◌*◌, ◌/◌, ◌%◌, ◌<◌, ◌≤◌, Bool, if◌then◌else◌, IsTrue, List}
 use Rattle.block_claims.specs.Agreement.{times_in, Claimed, IsTwice}
 use Rattle.xfs_super.specs.declared.geometry.Super.{Super}
 use Rattle.xfs_tree.specs.declared.fault.TreeFault.{TreeFault}

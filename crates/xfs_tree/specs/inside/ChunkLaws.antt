@@ -1,6 +1,6 @@
 -- The laws of chunks.
-use Rattle.std.specs.Prelude.{◌≡◌, ℕ, ◌+◌, ◌*◌, ◌<◌, ◌≤◌, ◌^◌, Bool, min, ◌-◌, true, false, nat_lt, nat_le, ◌&&◌, List, ◌++◌, [], ◌∷◌, length, take, drop, slice_index}
-use Rattle.std.proofs.Common.{refl, ◌∙◌, ap, sym, arith, length-append, append_assoc, get_or}
+use Rattle.std.specs.Prelude.{◌≡◌, ℕ, ◌+◌, ◌*◌, ◌<◌, ◌≤◌, ◌^◌, min, ◌-◌, true, false, nat_lt, nat_le, List, ◌++◌, [], ◌∷◌, length, take, drop, slice_index}
+use Rattle.std.proofs.Common.{◌∙◌, ap, sym, arith, length-append, append_assoc, get_or}
 use Rattle.std.proofs.lemmas.Bool.Decides.{nat_tests}
 use Rattle.std.proofs.lemmas.Nat.{mul-le}
 use Rattle.std.proofs.lemmas.List.{append-nil, get_or-append-add}
@@ -9,7 +9,7 @@ use Rattle.byteorder.specs.Endian.{big_bytes, big_number}
 use Rattle.byteorder.specs.Numbers.{big_number-reads_back, length-bytes_high_first}
 use Rattle.disk_base.specs.Fields.{big_at}
 use Rattle.xfs_super.specs.Geometry.{Geometry, group_len}
-use Rattle.xfs_tree.specs.Form.{Form, IsGrown}
+use Rattle.xfs_tree.specs.Form.{IsGrown}
 use Rattle.xfs_tree.specs.Records.{chunk_before, chunk_inside, chunk_bytes, sparse_bytes, fits_chunk, fits_sparse, by_inode, by_free_inode, by_sparse_inode, by_free_sparse_inode}
 use Rattle.xfs_tree.specs.declared.chunk.Chunk.{Chunk}
 use Rattle.xfs_tree.specs.declared.chunk.FreeChunk.{FreeChunk}

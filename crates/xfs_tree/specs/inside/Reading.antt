@@ -1,14 +1,14 @@
 -- What the parts of a walk find.
-use Rattle.std.specs.Prelude.{◌≡◌, ℕ, ◌+◌, ◌*◌, ◌/◌, ◌%◌, ◌<◌, ◌≤◌, Bool, true, IsTrue, List, ◌++◌, length, map}
-use Rattle.std.specs.List.{All, Contains, flat_map}
+use Rattle.std.specs.Prelude.{◌≡◌, ℕ, ◌+◌, ◌*◌, ◌<◌, ◌≤◌, true, List, ◌++◌, length}
+use Rattle.std.specs.List.{All, flat_map}
 use Rattle.xfs_super.specs.Geometry.{Geometry}
 use Rattle.xfs_tree.specs.declared.fault.TreeFault.{TreeFault}
 use Rattle.xfs_tree.specs.declared.fault.TreeFault.TheVariants.{Checksum, Header, Level, Order, Range, Marked, Device, Memory}
 use Rattle.xfs_tree.specs.Form.{Form, Setting}
-use Rattle.xfs_tree.specs.Block.{Sight, sight, count_in, is_whole, level_in, capacity, children, records_in, records_spelt, IsHeader, IsSoundBlock, IsBlockFault, Names}
+use Rattle.xfs_tree.specs.Block.{Sight, count_in, is_whole, level_in, capacity, children, records_in, IsHeader, IsSoundBlock, IsBlockFault, Names}
 use Rattle.block_claims.specs.Agreement.{Claimed, IsTwice}
 use Rattle.xfs_tree.specs.Fork.{IsRootFault}
-use Rattle.xfs_tree.specs.Tree.{IsNotBeforeNext, AreInOrder, IsOutOfOrder, HasFaultyBlock, records_at}
+use Rattle.xfs_tree.specs.Tree.{IsNotBeforeNext, IsOutOfOrder, HasFaultyBlock, records_at}
 
 abbrev pub AreInVolume : Geometry → List ℕ → Type 0
 AreInVolume geo blocks = All (λ n. n < geo.dblocks) blocks

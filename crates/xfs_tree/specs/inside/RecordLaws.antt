@@ -1,6 +1,6 @@
 -- The laws of the kinds of records.
-use Rattle.std.specs.Prelude.{◌≡◌, ℕ, ◌+◌, ◌*◌, ◌/◌, ◌%◌, ◌<◌, ◌≤◌, ◌^◌, Bool, min, ◌-◌, if◌then◌else◌, IsTrue, true, false, nat_lt, nat_le, ◌==◌, ◌&&◌, ◌||◌, List, ◌++◌, [], length, take, drop, codes}
-use Rattle.std.proofs.Common.{refl, ◌∙◌, ap, sym, arith, rules, length-append}
+use Rattle.std.specs.Prelude.{◌≡◌, ℕ, ◌+◌, ◌*◌, ◌/◌, ◌%◌, ◌<◌, ◌≤◌, ◌^◌, Bool, min, ◌-◌, true, false, nat_lt, nat_le, ◌&&◌, List, ◌++◌, [], length, take, drop}
+use Rattle.std.proofs.Common.{◌∙◌, ap, sym, arith, length-append}
 use Rattle.std.proofs.lemmas.Bool.Decides.{nat_tests}
 use Rattle.std.proofs.lemmas.List.{take_all, append-nil}
 use Rattle.std.proofs.Math.Seq.{drop-append_seam}
@@ -9,7 +9,7 @@ use Rattle.byteorder.specs.Numbers.{big_number-reads_back, length-bytes_high_fir
 use Rattle.disk_base.specs.Memory.{true_is_not_false}
 use Rattle.xfs_super.specs.Geometry.{Geometry, group_len}
 use Rattle.disk_base.specs.Fields.{big_at}
-use Rattle.xfs_tree.specs.Form.{Form, IsGrown}
+use Rattle.xfs_tree.specs.Form.{IsGrown}
 use Rattle.xfs_tree.specs.Records.{two_numbers, are_short, by_start, lower, by_count, extent_of, high_of, low_of, fits_extent, lies_in_group, by_file}
 use Rattle.xfs_tree.specs.declared.extent.Extent.{Extent}
 use Rattle.xfs_tree.specs.declared.free_run.ByStart.{ByStart}

@@ -8,7 +8,7 @@ use Rattle.xfs_tree.specs.declared.row.Row.{Row}
 use Rattle.xfs_tree.specs.Block.{Sight, sight, block_seen, pointers, leads_to, points_inside, IsBlockFault}
 use Rattle.xfs_tree.specs.Form.{Form, Setting, setting_of}
 use Rattle.xfs_tree.specs.Marks.{Claims, marked}
-use Rattle.xfs_tree.specs.Tree.{levels_below, numbers_of, IsTree, HasTreeFault}
+use Rattle.xfs_tree.specs.Tree.{levels_below, IsTree, HasTreeFault}
 use Rattle.xfs_tree.specs.inside.Reading.{AreInVolume, HasSoundHead, IsTakenNode, IsTakenLeaf, IsTakenLevel, AreTakenLeaves, IsNodeFault, IsLevelFault, IsLeafFault, AreLeavesFault}
 
 -- the tree that the row belongs to

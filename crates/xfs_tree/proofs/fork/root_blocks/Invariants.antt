@@ -1,11 +1,10 @@
-use Rattle.std.proofs.Common.{◌≡◌, ℕ, map, IsTrue}
+use Rattle.std.proofs.Common.{◌≡◌, map, IsTrue}
 use Rattle.std.specs.List.{All, range_with_len}
 use Rattle.xfs_super.specs.Super.{geometry_of}
 use Rattle.xfs_tree.specs.inside.Rows.{setting_of_row}
 use Rattle.xfs_tree.specs.Block.{leads_to, points_inside}
 use Rattle.xfs_tree.specs.Fork.{fork_pointer}
 use Rattle.xfs_tree.specs.Records.{by_file}
-use Rattle.xfs_tree.specs.declared.extent.Extent.{Extent}
 use Rattle.xfs_tree.proofs.fork.root_blocks.Given as goal
 
 abbrev pub invariant-loop-i : goal.invariant-loop-i

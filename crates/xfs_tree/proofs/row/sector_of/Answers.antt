@@ -1,4 +1,4 @@
-use Rattle.std.proofs.Common.{◌≡◌, ℕ, ◌*◌, ◌<◌, ap, sym, subst, ◌∙◌}
+use Rattle.std.proofs.Common.{ℕ, ◌*◌, ◌<◌, ap, sym, subst, ◌∙◌}
 use Rattle.xfs_super.proofs.Lying.{block_has_group}
 use Rattle.xfs_tree.proofs.Claims.{place_number}
 use Rattle.xfs_tree.proofs.row.sector_of.Goals as goal

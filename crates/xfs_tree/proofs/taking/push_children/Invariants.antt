@@ -1,4 +1,4 @@
-use Rattle.std.proofs.Common.{◌≡◌, ℕ, ◌++◌, map, IsTrue}
+use Rattle.std.proofs.Common.{◌≡◌, ◌++◌, map, IsTrue}
 use Rattle.std.specs.List.{All, range_with_len}
 use Rattle.xfs_super.specs.Super.{geometry_of}
 use Rattle.xfs_tree.specs.inside.Rows.{setting_of_row}

@@ -1,12 +1,11 @@
-use Rattle.std.proofs.Common.{◌≡◌, ℕ, ◌<◌, ◌≤◌, ◌-◌, IsTrue, List, ◌++◌, length, map, take, drop, refl, sym, ap, subst, ◌∙◌, arith}
-use Rattle.std.specs.List.{All}
+use Rattle.std.proofs.Common.{◌≡◌, ℕ, ◌<◌, ◌≤◌, ◌-◌, List, ◌++◌, length, map, take, drop, sym, ap, subst, ◌∙◌}
 use Rattle.std.proofs.lemmas.List.Elements.{All-append}
 use Rattle.std.proofs.lemmas.Result.{err_from_is_err_and}
 use Rattle.xfs_super.specs.Super.{geometry_of}
 use Rattle.xfs_tree.specs.inside.Rows.{setting_of_row}
 use Rattle.xfs_tree.specs.Form.{Setting}
 use Rattle.disk_base.specs.Memory.{true_is_not_false}
-use Rattle.xfs_tree.specs.Block.{count_in, node_capacity, Sight, block_seen, children, pointers, leads_to, points_inside}
+use Rattle.xfs_tree.specs.Block.{count_in, node_capacity, Sight, block_seen, children, pointers, leads_to}
 use Rattle.xfs_tree.specs.Marks.{marked}
 use Rattle.block_claims.specs.Agreement.{Claimed}
 use Rattle.xfs_tree.specs.inside.Reading.{AreInVolume}

@@ -1,4 +1,4 @@
-use Rattle.std.proofs.Common.{◌≡◌, ℕ, List, ap, arith}
+use Rattle.std.proofs.Common.{ℕ, List, ap, arith}
 use Rattle.std.proofs.lemmas.Result.{err_from_is_err_and}
 use Rattle.block_claims.specs.Agreement.{block}
 use Rattle.xfs_super.specs.Super.{geometry_of}

@@ -1,11 +1,10 @@
-use Rattle.std.proofs.Common.{◌≡◌, ℕ, ◌+◌, ◌-◌, ◌<◌, List, [], ◌∷◌, ◌++◌, map, refl, sym, ap, subst, ◌∙◌, arith}
+use Rattle.std.proofs.Common.{ℕ, ◌+◌, ◌-◌, List, map, ap, ◌∙◌, arith}
 use Rattle.std.proofs.lemmas.Result.{err_from_is_err_and}
 use Rattle.std.proofs.lemmas.List.{map_push}
 use Rattle.block_claims.specs.Agreement.{block}
 use Rattle.xfs_super.specs.Super.{geometry_of}
 use Rattle.xfs_tree.specs.inside.Rows.{setting_of_row}
 use Rattle.xfs_tree.specs.Form.{Setting}
-use Rattle.xfs_tree.specs.Block.{Sight}
 use Rattle.xfs_tree.specs.Marks.{marked}
 use Rattle.xfs_tree.specs.Tree.{levels_below}
 use Rattle.xfs_tree.proofs.Trees.{walked_root, walked_more_on, walked_tree_on, level_fault_on, leaves_fault_on, root_fault_on}
