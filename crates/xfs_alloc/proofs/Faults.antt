@@ -1,7 +1,6 @@
 -- The faults of the two trees of a group, of their runs and of the claims, as reasons of the check.
-use Rattle.std.proofs.Common.{◌≡◌, ℕ, ◌+◌, ◌*◌, ◌++◌, List, inl, inr, refl, sym, ap, subst, ◌∙◌, arith}
-use Rattle.std.specs.Prelude.{◌⊎◌}
-use Rattle.block_claims.specs.Agreement.{Claimed, IsTwice}
+use Rattle.std.proofs.Common.{◌≡◌, ℕ, ◌+◌, ◌*◌, List, inl, inr, refl, sym, ap, subst, ◌∙◌, arith}
+use Rattle.block_claims.specs.Agreement.{Claimed}
 use Rattle.block_claims.proofs.Agreements.{claimed_on, twice_on, twice_more, times_in-append}
 use Rattle.xfs_super.specs.Geometry.{Geometry}
 use Rattle.xfs_super.specs.declared.agf.Agf.{Agf}
@@ -20,7 +19,7 @@ use Rattle.xfs_tree.specs.Tree.{blocks_of, all_sights, leaves_of, IsSoundTree, H
 use Rattle.xfs_tree.proofs.TreeLaws.{sound_excludes, in_order_excludes}
 use Rattle.xfs_tree.specs.declared.fault.TreeFault.{TreeFault}
 use Rattle.xfs_tree.specs.declared.fault.TreeFault.TheVariants as tree
-use Rattle.xfs_alloc.specs.Free.{FreeSeen, group_setting, start_runs, count_runs, free_blocks, AreSameRuns, runs_blocks, tree_claims, free_claims, AreSoundTrees, NamesBlock, IsBadTree, IsFreeSpace, HasTwice, SpeaksAgainstFree, HasFreeFault}
+use Rattle.xfs_alloc.specs.Free.{FreeSeen, group_setting, start_runs, count_runs, free_blocks, AreSameRuns, runs_blocks, tree_claims, free_claims, AreSoundTrees, NamesBlock, IsBadTree, IsFreeSpace, SpeaksAgainstFree, HasFreeFault}
 use Rattle.xfs_alloc.specs.inside.Telling.{told, SpeaksAgainstRuns, IsRunsFault}
 
 -- the tree by start is refused

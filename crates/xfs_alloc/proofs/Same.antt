@@ -1,5 +1,5 @@
 -- What is seen of the free space of a group depends on the blocks of its trees alone, and stays under growth.
-use Rattle.std.proofs.Common.{◌≡◌, ℕ, ◌+◌, ◌-◌, ◌*◌, List, [], ◌∷◌, refl, sym, ap, ◌∙◌}
+use Rattle.std.proofs.Common.{◌≡◌, ℕ, ◌+◌, ◌-◌, ◌*◌, List, [], ◌∷◌, refl, ap, ◌∙◌}
 use Rattle.block_claims.specs.Agreement.{AgreeOn}
 use Rattle.block_claims.proofs.Agreements.{agree_left, agree_right}
 use Rattle.xfs_super.specs.Geometry.{Geometry}

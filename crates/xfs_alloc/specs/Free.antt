@@ -1,6 +1,6 @@
 -- The free space of a group: what is seen of its two trees, and why they are refused. A volume is a function from a
 -- block's number to its bytes.
-use Rattle.std.specs.Prelude.{◌≡◌, ℕ, ◌+◌, ◌-◌, ◌*◌, ◌≤◌, Bool, ◌==◌, ◌&&◌, List, [], ◌∷◌, ◌++◌, count_by, sum_by, ◌⊎◌}
+use Rattle.std.specs.Prelude.{◌≡◌, ℕ, ◌+◌, ◌-◌, ◌*◌, ◌==◌, ◌&&◌, List, [], ◌∷◌, ◌++◌, count_by, sum_by, ◌⊎◌}
 use Rattle.std.specs.List.{flat_map, range_with_len}
 use Rattle.block_claims.specs.Agreement.{block, IsTwice}
 use Rattle.xfs_super.specs.Geometry.{Geometry}

@@ -1,5 +1,5 @@
 -- The free space of a group as a value: its runs, and the blocks of its two trees, level by level.
-use Rattle.std.specs.Prelude.{ℕ, ◌-◌, ◌%◌, ◌<◌, Bool, nat_lt, if◌then◌else◌, List, [], map, length, slice_index_or}
+use Rattle.std.specs.Prelude.{ℕ, ◌-◌, ◌%◌, nat_lt, if◌then◌else◌, List, [], map, length, slice_index_or}
 use Rattle.std.specs.List.{range_with_len}
 use Rattle.xfs_super.specs.Geometry.{Geometry}
 use Rattle.xfs_super.specs.Super.{geometry_of}

@@ -1,9 +1,7 @@
-use Rattle.std.proofs.Common.{◌≡◌, ℕ, List, take, get_or, ◌+◌, ◌*◌, ◌<◌, ◌≤◌, sym, subst, ap, ◌∙◌, arith}
+use Rattle.std.proofs.Common.{get_or, ◌∙◌, arith}
 use Rattle.std.proofs.lemmas.Result.{err_from_is_err_and}
 use Rattle.xfs_super.specs.Super.{geometry_of}
-use Rattle.xfs_super.proofs.Lying.{group_lies_inside}
 use Rattle.xfs_tree.specs.Marks.{marked}
-use Rattle.xfs_tree.specs.Records.{by_start}
 use Rattle.xfs_tree.specs.declared.free_run.ByStart.{ByStart}
 use Rattle.xfs_alloc.proofs.Claimed.{runs_more, run_fault_in, lies_inside}
 use Rattle.xfs_alloc.proofs.claiming.claim_runs.Goals as goal

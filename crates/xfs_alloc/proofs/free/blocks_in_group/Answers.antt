@@ -1,7 +1,6 @@
-use Rattle.std.proofs.Common.{◌≡◌, ℕ, ◌+◌, ◌<◌, ◌%◌, List, [], ◌∷◌, ◌++◌, map, get_or, take, sym, ap, ◌∙◌, arith}
+use Rattle.std.proofs.Common.{ℕ, ◌%◌, List, map, get_or, take, ap, ◌∙◌, arith}
 use Rattle.std.proofs.lemmas.List.{map_push}
 use Rattle.std.proofs.lemmas.Grind.{take_at_read}
-use Rattle.xfs_alloc.specs.FreeSpace.{in_group}
 use Rattle.xfs_alloc.proofs.Spaces.{group_more}
 use Rattle.xfs_alloc.proofs.free.blocks_in_group.Goals as goal
 

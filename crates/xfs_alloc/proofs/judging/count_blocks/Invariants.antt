@@ -1,4 +1,4 @@
-use Rattle.std.proofs.Common.{◌≡◌, ℕ, ◌<◌, ◌≤◌, length, take, get_or}
+use Rattle.std.proofs.Common.{◌≡◌, ◌<◌, ◌≤◌, length, take, get_or}
 use Rattle.xfs_alloc.specs.Free.{free_blocks}
 use Rattle.xfs_tree.specs.declared.free_run.ByStart.{ByStart}
 use Rattle.xfs_alloc.proofs.judging.count_blocks.Given as goal

@@ -1,4 +1,3 @@
-use Rattle.std.proofs.Common.{◌≡◌, true, false, not}
 use Rattle.xfs_alloc.proofs.judging.judge.Goals as goal
 
 pub returns-clause-same : goal.returns-clause-same

@@ -1,4 +1,4 @@
-use Rattle.std.proofs.Common.{ℕ, List, map, ap, ◌∙◌}
+use Rattle.std.proofs.Common.{List, map, ap, ◌∙◌}
 use Rattle.xfs_tree.specs.declared.free_run.ByStart.{ByStart}
 use Rattle.xfs_alloc.proofs.free.Free.of.Goals as goal
 
