@@ -1,5 +1,5 @@
 //! Claims in a list, for tests of few blocks.
-ghost use Rattle.std.specs.Prelude.{◌≡◌, ◌&&◌, ◌==◌, []};
+ghost use Rattle.std.specs.Prelude.{◌≡◌, ◌&&◌, ◌==◌, [], length};
 ghost use Rattle.std.specs.List.{list_any};
 
 use std::alloc::{AllocError, Global};
@@ -22,7 +22,9 @@ impl ListMark {
     }
 
     /// How many blocks are claimed.
-    pub(crate) fn count(&self) -> usize {
+    pub(crate) fn count(&self) -> usize
+        ensures { result ≡ length self.now.blocks.items }
+    {
         self.blocks.len()
     }
 

@@ -1,3 +1,6 @@
+//! Trees by start of a group, in blocks of two records or keys each.
+ghost use Rattle.std.specs.Prelude.{◌≡◌, IfOk, replicate};
+
 use crate::list_mark::ListMark;
 use disk_base::{Blocks, ByteDisk, List, put};
 use disk_fixtures::{TreeBlock, Volume, resum};
@@ -21,7 +24,9 @@ pub(crate) const SMALL: Volume = Volume {
 const SECTORS: u64 = 1024;
 
 // That many bytes, all zero.
-pub(crate) fn zeros(alloc: Global, n: usize) -> Result<Vec<u8>, AllocError> {
+pub(crate) fn zeros(alloc: Global, n: usize) -> Result<Vec<u8>, AllocError>
+    ensures { IfOk result (λ bytes. bytes.items ≡ replicate n 0) }
+{
     Ok(vec![in alloc; 0u8; n]?)
 }
 
@@ -197,94 +202,110 @@ fn walks_three_levels(rt: HostRuntime) -> Result<(), Fail> {
     Ok(())
 }
 
-// What each change of the tree makes of it.
-fn table() -> [(Change, TreeFault); 12] {
-    let change = |row, at, bytes, summed| Change {
+// A change of the bytes of a block from that byte on.
+fn changed(row: usize, at: usize, bytes: [u8; 4], summed: bool) -> Change {
+    Change {
         row,
         at,
         bytes,
         summed,
-    };
+    }
+}
+
+// What changes of what a block says of itself make of the tree.
+fn of_headers() -> [(Change, TreeFault); 5] {
     [
         (
-            change(3, 52, [1, 2, 3, 4], false),
+            changed(3, 52, [1, 2, 3, 4], false),
             TreeFault::Checksum {
                 group: 1,
                 block: 13,
             },
         ),
         (
-            change(0, 0, *b"AB3C", true),
+            changed(0, 0, *b"AB3C", true),
             TreeFault::Header {
                 group: 1,
                 block: 10,
             },
         ),
         (
-            change(1, 20, [0, 0, 2, 89], true),
+            changed(1, 20, [0, 0, 2, 89], true),
             TreeFault::Header {
                 group: 1,
                 block: 11,
             },
         ),
         (
-            change(5, 32, [1, 35, 69, 104], true),
+            changed(5, 32, [1, 35, 69, 104], true),
             TreeFault::Header {
                 group: 1,
                 block: 15,
             },
         ),
         (
-            change(6, 48, [0, 0, 0, 0], true),
+            changed(6, 48, [0, 0, 0, 0], true),
             TreeFault::Header {
                 group: 1,
                 block: 16,
             },
         ),
+    ]
+}
+
+// What changes of levels, counts and places make of it.
+fn of_ranges() -> [(Change, TreeFault); 4] {
+    [
         (
-            change(2, 4, [0, 2, 0, 2], true),
+            changed(2, 4, [0, 2, 0, 2], true),
             TreeFault::Level {
                 group: 1,
                 block: 12,
             },
         ),
         (
-            change(4, 4, [0, 0, 0, 0], true),
+            changed(4, 4, [0, 0, 0, 0], true),
             TreeFault::Range {
                 group: 1,
                 block: 14,
             },
         ),
         (
-            change(6, 68, [0, 0, 0, 10], true),
+            changed(6, 68, [0, 0, 0, 10], true),
             TreeFault::Range {
                 group: 1,
                 block: 16,
             },
         ),
         (
-            change(0, 2748, [0, 0, 0, 64], true),
+            changed(0, 2748, [0, 0, 0, 64], true),
             TreeFault::Range {
                 group: 1,
                 block: 10,
             },
         ),
+    ]
+}
+
+// What changes of keys, starts and pointers make of it.
+fn of_order() -> [(Change, TreeFault); 3] {
+    [
         (
-            change(1, 64, [0, 0, 0, 20], true),
+            changed(1, 64, [0, 0, 0, 20], true),
             TreeFault::Order {
                 group: 1,
                 block: 11,
             },
         ),
         (
-            change(4, 56, [0, 0, 0, 25], true),
+            changed(4, 56, [0, 0, 0, 25], true),
             TreeFault::Order {
                 group: 1,
                 block: 14,
             },
         ),
         (
-            change(2, 2748, [0, 0, 0, 13], true),
+            changed(2, 2748, [0, 0, 0, 13], true),
             TreeFault::Marked {
                 group: 1,
                 block: 13,
@@ -293,18 +314,32 @@ fn table() -> [(Change, TreeFault); 12] {
     ]
 }
 
-#[test]
-fn names_each_fault(rt: HostRuntime) -> Result<(), Fail> {
-    let alloc = rt.alloc();
-    for (change, want) in table() {
-        let mut disk = disk_with(alloc, &change, None)?;
+// Compares the fault that each change makes with the one that is wanted.
+fn compare(rt: &impl Abort, alloc: Global, rows: &[(Change, TreeFault)]) -> Result<(), Fail> {
+    for (change, want) in rows {
+        let mut disk = disk_with(alloc, change, None)?;
         let mut marks = ListMark::new(alloc);
-        let Some(Err(fault)) = walked(&rt, alloc, &mut disk, &mut marks) else {
+        let Some(Err(fault)) = walked(rt, alloc, &mut disk, &mut marks) else {
             return Err(Fail::new("another answer"));
         };
-        assert_eq!(rt; fault, want);
+        assert_eq!(rt; fault, *want);
     }
     Ok(())
+}
+
+#[test]
+fn names_a_block_that_is_not_its_own(rt: HostRuntime) -> Result<(), Fail> {
+    compare(&rt, rt.alloc(), &of_headers())
+}
+
+#[test]
+fn names_what_lies_outside(rt: HostRuntime) -> Result<(), Fail> {
+    compare(&rt, rt.alloc(), &of_ranges())
+}
+
+#[test]
+fn names_what_does_not_rise(rt: HostRuntime) -> Result<(), Fail> {
+    compare(&rt, rt.alloc(), &of_order())
 }
 
 #[test]
