@@ -1,0 +1,5 @@
+pub mod Entries
+pub mod Guests
+pub mod Known
+pub mod Named
+pub mod Sources

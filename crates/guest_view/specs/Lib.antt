@@ -1,0 +1,4 @@
+pub mod FaultTexts
+pub mod Guests
+pub mod Partitions
+pub mod inside
