@@ -10,12 +10,12 @@ use xfs_super::{CheckFault, Reason, agf_of, super_of};
 
 const SECTORS: u64 = 1024;
 
-// A leaf of a tree of the first group, with two runs.
+// A leaf of a tree of the first group, with two runs; where the second has no block, with the first alone.
 fn leaf(magic: [u8; 4], at: u64, items: [(u32, u32); 2]) -> TreeBlock {
     TreeBlock {
         magic,
         level: 0,
-        count: 2,
+        count: if items[1].1 == 0 { 1 } else { 2 },
         group: 0,
         at,
         items,
@@ -99,6 +99,7 @@ fn names_what_differs(rt: HostRuntime) -> Result<(), Fail> {
     let differ = Reason::FreeTreesDiffer { group: 0 };
     let table = [
         (STARTS, [(40, 3), (21, 9)], 12, differ),
+        (STARTS, [(40, 3), (0, 0)], 12, differ),
         (STARTS, [(20, 3), (40, 9)], 12, differ),
         (STARTS, COUNTS, 11, count(11, 12)),
         (STARTS, COUNTS, 2, count(2, 12)),
