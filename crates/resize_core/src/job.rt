@@ -137,16 +137,21 @@ pub fn copy<S: Disk, T: Disk, O: Sink>(
     target: &mut T,
     out: &mut O,
 ) -> End
-    ensures cause { CausesOn from.now to.now S.Blocks source.old source.new T.Blocks target.old target.new O.Sink out.old out.new result }
-    ensures attached { Attached (copy_on from.now to.now S.Blocks source.old T.Blocks target.old) (S.attached source.new) (T.attached target.new) result }
+    ensures cause { CausesOn from.now to.now S.Blocks source.old source.new T.Blocks target.old target.new
+        O.Sink out.old out.new result }
+    ensures attached { Attached (copy_on from.now to.now S.Blocks source.old T.Blocks target.old)
+        (S.attached source.new) (T.attached target.new) result }
     ensures source { AsksOnly S.Blocks S.Disk.own (to_read from.now) source.old source.new }
     ensures asked { IsTrue T.tells → AskedOnce (to_change to.now) (T.log target.old) (T.log target.new) }
     ensures due { OnCopy from.now to.now S.Blocks source.old T.Blocks target.old (λ m. IsDue m result) }
-    ensures left { OnCopy from.now to.now S.Blocks source.old T.Blocks target.old (LeavesOn T.Blocks T.Disk.own target.old target.new result) }
-    ensures moments { OnCopy from.now to.now S.Blocks source.old T.Blocks target.old (StopsOn T.Blocks T.Disk.own target.old target.new) }
+    ensures left { OnCopy from.now to.now S.Blocks source.old T.Blocks target.old
+        (LeavesOn T.Blocks T.Disk.own target.old target.new result) }
+    ensures moments { OnCopy from.now to.now S.Blocks source.old T.Blocks target.old
+        (StopsOn T.Blocks T.Disk.own target.old target.new) }
     ensures settled { IsTrue T.tells_stops → Settled (held T.Blocks T.Disk.own target.old) (held T.Blocks T.Disk.own target.new) result }
     ensures unprinted { IsTrue O.tells_text → Unprinted (O.text out.old) (O.text out.new) result }
-    ensures printed { OnCopy from.now to.now S.Blocks source.old T.Blocks target.old (PrintsOn T.Blocks T.Disk.own target.old target.new O.Sink out.old out.new result) }
+    ensures printed { OnCopy from.now to.now S.Blocks source.old T.Blocks target.old
+        (PrintsOn T.Blocks T.Disk.own target.old target.new O.Sink out.old out.new result) }
 {
     if let Err(fault) = attach_both(from, to, source, target) {
         return End::Failed(Failing::Device(fault));

@@ -65,7 +65,8 @@ pub fn write<S: Blocks, T: Disk, O: Sink>(
     ensures settled { IsTrue T.tells_stops → OnOk result (IsSettled (T.image target.new) (T.stops target.new)) }
     ensures used { Used T.Blocks T.Disk.own target.old target.new }
     ensures printed { IsTrue O.tells_text → OnOk result (O.text out.new ≡ O.text out.old ++ summary.now ++ last_line) }
-    ensures part { IfErr result (CutsLines ready.now summary.now S.Blocks source.old T.Blocks T.Disk.own target.old target.new O.Sink out.old out.new) }
+    ensures part { IfErr result (CutsLines ready.now summary.now S.Blocks source.old T.Blocks T.Disk.own
+        target.old target.new O.Sink out.old out.new) }
     ensures cause { IfErr result (FailedBy S.Blocks source.old source.new T.Blocks target.old target.new O.Sink out.old out.new) }
 {
     if print(out, summary).is_err() {

@@ -30,8 +30,10 @@ fn resize<S: Disk, T: Disk, O: Sink>(
     target: &mut T,
     out: &mut O,
 ) -> End
-    ensures uncalled { UncalledBy (Ok (ToResize job.now)) source.old source.new target.old target.new out.old out.new }
-    ensures ended { ActedBy (Ok (ToResize job.now)) S.Blocks S.Disk.own T.Blocks T.Disk.own O.Sink source.old target.old out.old source.new target.new out.new result }
+    ensures uncalled { UncalledBy (Ok (ToResize job.now))
+        source.old source.new target.old target.new out.old out.new }
+    ensures ended { ActedBy (Ok (ToResize job.now)) S.Blocks S.Disk.own T.Blocks T.Disk.own O.Sink
+        source.old target.old out.old source.new target.new out.new result }
 {
     if !is_plain(job) {
         return End::Refused(Refusal::NotYet);
@@ -55,7 +57,8 @@ fn act_on<S: Disk, T: Disk, O: Sink>(
     out: &mut O,
 ) -> End
     ensures uncalled { UncalledBy (Ok job.now) source.old source.new target.old target.new out.old out.new }
-    ensures ended { ActedBy (Ok job.now) S.Blocks S.Disk.own T.Blocks T.Disk.own O.Sink source.old target.old out.old source.new target.new out.new result }
+    ensures ended { ActedBy (Ok job.now) S.Blocks S.Disk.own T.Blocks T.Disk.own O.Sink
+        source.old target.old out.old source.new target.new out.new result }
 {
     match job {
         Job::Resize(job) => resize(alloc, job, source, target, out),
@@ -72,7 +75,8 @@ fn act<S: Disk, T: Disk, O: Sink>(
     out: &mut O,
 ) -> End
     ensures uncalled { Uncalled words.now source.old source.new target.old target.new out.old out.new }
-    ensures ended { Acted words.now S.Blocks S.Disk.own T.Blocks T.Disk.own O.Sink source.old target.old out.old source.new target.new out.new result }
+    ensures ended { Acted words.now S.Blocks S.Disk.own T.Blocks T.Disk.own O.Sink
+        source.old target.old out.old source.new target.new out.new result }
 {
     match read_words(alloc, words) {
         Err(usage) => End::Refused(refusal_of(usage)),
@@ -96,7 +100,8 @@ pub fn run<S: Disk, T: Disk, O: Sink, E: Sink>(
     ensures uncalled { Uncalled words.now source.old source.new target.old target.new out.old out.new }
 
     // The run has one end, and the status, the disks and the streams are as that end says.
-    ensures ran { Ran words.now S.Blocks S.Disk.own T.Blocks T.Disk.own O.Sink E.Sink source.old target.old out.old err.old source.new target.new out.new err.new result }
+    ensures ran { Ran words.now S.Blocks S.Disk.own T.Blocks T.Disk.own O.Sink E.Sink
+        source.old target.old out.old err.old source.new target.new out.new err.new result }
 {
     let end = act(alloc, words, source, target, out);
     status_of(report(alloc, tool_of(words), end, err))
