@@ -20,8 +20,8 @@ use Rattle.mbr_table.specs.Slot.{empty_slot, holds_extended, is_bad_slot, is_ext
 use Rattle.guest_view.specs.declared.partition.Partition.{Partition}
 use Rattle.guest_view.specs.declared.table.Table.{Table}
 use Rattle.guest_view.specs.declared.table.Table.TheVariants.{Mbr, Gpt}
-use Rattle.guest_view.specs.Guests.{guest_part}
-use Rattle.guest_view.specs.inside.Sound.{IsSoundTable, IsWhole}
+use Rattle.guest_view.specs.Guests.{IsSoundTable, guest_part}
+use Rattle.guest_view.specs.inside.Sound.{IsWhole}
 use Rattle.guest_view.specs.Partitions.{HasNoClash, IsReachable, entry_partition, logical_partition, named_from, or_none, partitions_of, slot_partition, used_partition}
 use Rattle.guest_view.proofs.Named.{IsNamedBy, named_each, named_pairs, pairs_append}
 use Rattle.guest_view.proofs.Sources.{ByRole, IsKnown, Rises, StandsIn, is_source, lie_inside}

@@ -3,7 +3,7 @@ use Rattle.std.specs.Prelude.{◌≡◌, ℕ, ◌+◌, ◌^◌, ◌<◌, ◌≤�
 use Rattle.disk_base.specs.Image.{sector}
 use Rattle.gpt_table.specs.declared.fault.GptFault.{GptFault}
 use Rattle.gpt_table.specs.declared.fault.GptFault.TheVariants as gpt
-use Rattle.gpt_table.specs.Gpt.{HasGptFault, IsGptTable}
+use Rattle.gpt_table.specs.Gpt.{AreInside, HasGptFault, IsGptTable}
 use Rattle.layout_plan.specs.declared.part.Kind.{Kind}
 use Rattle.layout_plan.specs.declared.part.Kind.TheVariants as kinds
 use Rattle.layout_plan.specs.declared.part.Part.{Part}
@@ -11,7 +11,8 @@ use Rattle.layout_plan.specs.declared.part.Role.{Role}
 use Rattle.layout_plan.specs.declared.part.Role.TheVariants as roles
 use Rattle.mbr_table.specs.declared.fault.MbrFault.{MbrFault}
 use Rattle.mbr_table.specs.declared.fault.MbrFault.TheVariants as mbr
-use Rattle.mbr_table.specs.Mbr.{HasMbrFault, IsMbrTable, IsProtective}
+use Rattle.mbr_table.specs.Mbr.{AreSound, AreWithin, HasMbrFault, IsMbrTable, IsProtective}
+use Rattle.layout_plan.specs.Tables.{floor_of}
 use Rattle.guest_view.specs.declared.content.Content.{Content}
 use Rattle.guest_view.specs.declared.content.Content.TheVariants as contents
 use Rattle.guest_view.specs.declared.content.Why.TheVariants.{Other}
@@ -42,6 +43,17 @@ IsLeftToGpt sectors image = (0 < sectors) × IsProtective (sector image 0)
 abbrev pub IsTableOf : ℕ → List ℕ → Table → Type 0
 IsTableOf sectors image (Mbr table) = (IsLeftToGpt sectors image → ⊥) × IsMbrTable sectors image table
 IsTableOf sectors image (Gpt table) = IsLeftToGpt sectors image × IsGptTable sectors image table
+
+-- slots that aren't bad with logical partitions in the extended one, or entries between the tables
+abbrev pub HasSoundEntries : ℕ → Table → Type 0
+HasSoundEntries sectors (Mbr table) = AreSound sectors table.slots × AreWithin table.slots table.logicals
+HasSoundEntries sectors (Gpt table) = AreInside sectors table.entries
+
+-- a table of a disk that isn't too large, and has room for it
+pub record IsSoundTable (sectors : ℕ) (table : Table) : Type 0 where
+  pub few : sectors ≤ 2 ^ 31
+  pub room : floor_of (kind_of table) ≤ sectors
+  pub entries : HasSoundEntries sectors table
 
 -- what a partition of that role holds
 abbrev pub content_by : Role → Content

@@ -3,6 +3,7 @@ ghost use Rattle.std.specs.Prelude.{◌≡◌};
 ghost use Rattle.guest_view.specs.Guests.{content_by, needed_sectors};
 
 use layout_plan::Role;
+use std::fmt;
 
 /// What a partition holds: the logical partitions of its chain, or what isn't read, and why.
 #[derive(Clone, Copy, Debug, PartialEq, Eq)]
@@ -16,6 +17,19 @@ pub enum Content {
 pub enum Why {
     /// It is of no kind that is read.
     Other,
+}
+
+impl fmt::Display for Why {
+    ghost use Rattle.std.specs.Prelude.{Some};
+    ghost use Rattle.guest_view.specs.FaultTexts.{why_text};
+
+    ghost output = { λ why. Some (why_text why) };
+
+    fn fmt<W: fmt::Write>(&self, f: &mut fmt::Formatter<W>) -> fmt::Result {
+        match *self {
+            Why::Other => f.write_str("Other"),
+        }
+    }
 }
 
 impl Content {

@@ -1,7 +1,7 @@
 //! A guest.
-ghost use Rattle.std.specs.Prelude.{◌≡◌, ◌^◌, ◌≤◌, map};
+ghost use Rattle.std.specs.Prelude.{◌≡◌, ◌^◌, ◌<◌, ◌≤◌, map};
 ghost use Rattle.layout_plan.specs.Source.{IsSource};
-ghost use Rattle.guest_view.specs.Guests.{EndOnDisk, guest_part, kind_of, planned_part};
+ghost use Rattle.guest_view.specs.Guests.{EndOnDisk, IsSoundTable, guest_part, kind_of, planned_part};
 ghost use Rattle.guest_view.specs.Partitions.{HasNoClash, partitions_of};
 
 use crate::content::Content;
@@ -58,6 +58,7 @@ impl Guest {
     /// The sectors of its disk.
     pub fn sectors(&self) -> u64
         ensures sectors { result ≡ self.now.sectors }
+        ensures some { 0 < result }
         ensures few { result ≤ 2 ^ 31 }
     {
         self.sectors
@@ -65,7 +66,8 @@ impl Guest {
 
     /// Its table.
     pub fn table(&self) -> &Table
-        ensures { result.now ≡ self.now.table }
+        ensures table { result.now ≡ self.now.table }
+        ensures sound { IsSoundTable self.now.sectors self.now.table }
     {
         &self.table
     }

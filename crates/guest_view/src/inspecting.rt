@@ -2,8 +2,8 @@
 ghost use Rattle.std.specs.Prelude.{◌≡◌, ◌^◌, ◌<◌, ◌≤◌, IsTrue, IfOk, IfErr, IsErrOf, Err, true, ◌↔◌};
 ghost use Rattle.disk_base.specs.Faults.{Rose};
 ghost use Rattle.guest_view.specs.declared.fault.InspectFault.TheVariants.{Device, TooLarge};
-ghost use Rattle.guest_view.specs.Guests.{IsGuest, IsLeftToGpt, IsNoGuest, IsTableOf, OneGuest};
-ghost use Rattle.guest_view.specs.inside.Sound.{IsGuestOf, IsNoGuestBy, IsSoundTable};
+ghost use Rattle.guest_view.specs.Guests.{IsGuest, IsLeftToGpt, IsNoGuest, IsSoundTable, IsTableOf, OneGuest};
+ghost use Rattle.guest_view.specs.inside.Sound.{IsGuestOf, IsNoGuestBy};
 
 use crate::clash::first_clash;
 use crate::fault::InspectFault;

@@ -2,10 +2,9 @@
 ghost use Rattle.std.specs.Option.{option_to_list};
 ghost use Rattle.std.specs.Prelude.{◌≡◌, ◌-◌, ◌≤◌, ◌++◌, length, map, IfOk, OnOk, Some, slice_index_or, None};
 ghost use Rattle.gpt_table.specs.Gpt.{AreInside};
-ghost use Rattle.guest_view.specs.Guests.{guest_part};
+ghost use Rattle.guest_view.specs.Guests.{IsSoundTable, guest_part};
 ghost use Rattle.guest_view.specs.Partitions.{entry_partition, logical_partition, named_from, partitions_of, slot_partition};
 ghost use Rattle.guest_view.specs.declared.table.Table.TheVariants.{Mbr as OfMbr};
-ghost use Rattle.guest_view.specs.inside.Sound.{IsSoundTable};
 ghost use Rattle.mbr_table.specs.Mbr.{AreWithin};
 
 use crate::content::Content;

@@ -1,25 +1,12 @@
--- What is true of every table that was read.
-use Rattle.std.specs.Prelude.{◌≡◌, ℕ, ◌≤◌, ◌^◌, List, map}
-use Rattle.gpt_table.specs.Gpt.{AreInside}
-use Rattle.mbr_table.specs.Mbr.{AreSound, AreWithin}
+-- What the parts of a guest are.
+use Rattle.std.specs.Prelude.{◌≡◌, ℕ, List, map}
 use Rattle.layout_plan.specs.Source.{IsSource}
 use Rattle.guest_view.specs.declared.fault.InspectFault.{InspectFault}
 use Rattle.guest_view.specs.declared.fault.InspectFault.TheVariants.{Overlap, Memory}
 use Rattle.guest_view.specs.declared.guest.GuestPart.{GuestPart}
 use Rattle.guest_view.specs.declared.table.Table.{Table}
-use Rattle.guest_view.specs.declared.table.Table.TheVariants.{Mbr, Gpt}
-use Rattle.guest_view.specs.Guests.{GuestView, EndOnDisk, guest_part, kind_of, planned_part}
+use Rattle.guest_view.specs.Guests.{GuestView, EndOnDisk, IsSoundTable, guest_part, kind_of, planned_part}
 use Rattle.guest_view.specs.Partitions.{AreFirstClash, HasNoClash, partitions_of}
-
--- slots that aren't bad with logical partitions in the extended one, or entries between the tables
-abbrev pub HasSoundEntries : ℕ → Table → Type 0
-HasSoundEntries sectors (Mbr table) = AreSound sectors table.slots × AreWithin table.slots table.logicals
-HasSoundEntries sectors (Gpt table) = AreInside sectors table.entries
-
--- a table of a disk that isn't too large
-pub record IsSoundTable (sectors : ℕ) (table : Table) : Type 0 where
-  pub few : sectors ≤ 2 ^ 31
-  pub entries : HasSoundEntries sectors table
 
 -- the parts of a guest: they lie apart, and a plan can take them
 pub record IsWhole (sectors : ℕ) (table : Table) (parts : List GuestPart) : Type 0 where

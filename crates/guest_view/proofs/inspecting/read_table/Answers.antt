@@ -1,8 +1,7 @@
 -- What is read behind a look at sector 0 is of the same disk.
 use Rattle.std.proofs.Common.{ℕ, IfOk, IfErr, arith, subst, sym, ◌∙◌}
 use Rattle.std.proofs.lemmas.Bool.{false≢true}
-use Rattle.guest_view.specs.Guests.{IsLeftToGpt, IsNoGuest, IsTableOf}
-use Rattle.guest_view.specs.inside.Sound.{IsSoundTable}
+use Rattle.guest_view.specs.Guests.{IsLeftToGpt, IsNoGuest, IsSoundTable, IsTableOf}
 use Rattle.guest_view.proofs.Guests.{of_same_disk}
 use Rattle.guest_view.proofs.inspecting.read_table.Goals as goal
 
