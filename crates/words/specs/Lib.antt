@@ -1,5 +1,6 @@
 pub mod Items
 pub mod JobOf
+pub mod Plannable
 pub mod Numbers
 pub mod Options
 pub mod Sizes

@@ -1,6 +1,7 @@
 //! The job that a list of words asks for.
 ghost use Rattle.std.specs.Option.{option_copied};
 ghost use Rattle.std.specs.Prelude.{◌≡◌, IfOk, MatchResult, false, map, option_and_then, slice_get, string_bytes};
+ghost use Rattle.words.specs.Plannable.{MayBePlanned};
 ghost use Rattle.words.specs.JobOf.{IsToldOf, answer_to, both_of, both_operands, copy_answer, in_place_answer, job_from, job_of, layout_of, resize_answer, resize_job_of, setting, sparsify_job_of, value_of};
 ghost use Rattle.words.specs.Items.{items_of};
 ghost use Rattle.words.specs.Options.{tool_of};
@@ -139,7 +140,8 @@ fn both(items: &[Item]) -> Result<(&[u8], &[u8]), Usage>
 
 #[tactic(auto, using(crate::proofs::Telling::told), unfolding(crate::specs::JobOf::resize_answer))]
 fn finish_resize(alloc: Global, items: &[Item]) -> Result<Job, Usage>
-    ensures { MatchResult result (λ job. resize_answer items.now ≡ Ok job) (λ fault. IsToldOf (resize_answer items.now) fault) }
+    ensures answer { MatchResult result (λ job. resize_answer items.now ≡ Ok job) (λ fault. IsToldOf (resize_answer items.now) fault) }
+    ensures plannable { IfOk result MayBePlanned }
 {
     match both(items) {
         Err(fault) => Err(fault),
@@ -152,7 +154,8 @@ fn finish_resize(alloc: Global, items: &[Item]) -> Result<Job, Usage>
 
 #[tactic(auto, using(crate::proofs::Telling::told), unfolding(crate::specs::JobOf::copy_answer))]
 fn finish_copy(alloc: Global, items: &[Item]) -> Result<Job, Usage>
-    ensures { MatchResult result (λ job. copy_answer items.now ≡ Ok job) (λ fault. IsToldOf (copy_answer items.now) fault) }
+    ensures answer { MatchResult result (λ job. copy_answer items.now ≡ Ok job) (λ fault. IsToldOf (copy_answer items.now) fault) }
+    ensures plannable { IfOk result MayBePlanned }
 {
     match both(items) {
         Err(fault) => Err(fault),
@@ -165,7 +168,8 @@ fn finish_copy(alloc: Global, items: &[Item]) -> Result<Job, Usage>
 
 #[tactic(auto, unfolding(crate::specs::JobOf::in_place_answer))]
 fn finish_in_place(alloc: Global, items: &[Item]) -> Result<Job, Usage>
-    ensures { MatchResult result (λ job. in_place_answer items.now ≡ Ok job) (λ fault. IsToldOf (in_place_answer items.now) fault) }
+    ensures answer { MatchResult result (λ job. in_place_answer items.now ≡ Ok job) (λ fault. IsToldOf (in_place_answer items.now) fault) }
+    ensures plannable { IfOk result MayBePlanned }
 {
     match find_operand(items, 0) {
         None => Err(Usage::Missing),
@@ -178,7 +182,8 @@ fn finish_in_place(alloc: Global, items: &[Item]) -> Result<Job, Usage>
 
 #[tactic(auto, unfolding(crate::specs::JobOf::answer_to))]
 fn finish(alloc: Global, tool: Tool, items: &[Item]) -> Result<Job, Usage>
-    ensures { MatchResult result (λ job. answer_to tool items.now ≡ Ok job) (λ fault. IsToldOf (answer_to tool items.now) fault) }
+    ensures answer { MatchResult result (λ job. answer_to tool items.now ≡ Ok job) (λ fault. IsToldOf (answer_to tool items.now) fault) }
+    ensures plannable { IfOk result MayBePlanned }
 {
     match tool {
         Tool::VirtResize => finish_resize(alloc, items),
@@ -194,7 +199,8 @@ fn finish(alloc: Global, tool: Tool, items: &[Item]) -> Result<Job, Usage>
 
 #[tactic(auto, using(crate::proofs::Telling::told), unfolding(crate::specs::JobOf::job_from))]
 fn judge_and_finish(alloc: Global, tool: Tool, items: &[Item]) -> Result<Job, Usage>
-    ensures { MatchResult result (λ job. job_from tool items.now ≡ Ok job) (λ fault. IsToldOf (job_from tool items.now) fault) }
+    ensures answer { MatchResult result (λ job. job_from tool items.now ≡ Ok job) (λ fault. IsToldOf (job_from tool items.now) fault) }
+    ensures plannable { IfOk result MayBePlanned }
 {
     match judge(alloc, items) {
         Err(_) => Err(Usage::Memory),
@@ -219,7 +225,8 @@ fn first_tool(words: &[String]) -> Option<Tool>
 /// The first thing that is wrong with the words, from left to right; or [`Usage::Memory`].
 #[tactic(auto, unfolding(crate::specs::JobOf::job_of))]
 pub fn read_words(alloc: Global, words: &[String]) -> Result<Job, Usage>
-    ensures { MatchResult result (λ job. job_of (map string_bytes words.now) ≡ Ok job) (λ fault. IsToldOf (job_of (map string_bytes words.now)) fault) }
+    ensures answer { MatchResult result (λ job. job_of (map string_bytes words.now) ≡ Ok job) (λ fault. IsToldOf (job_of (map string_bytes words.now)) fault) }
+    ensures plannable { IfOk result MayBePlanned }
 {
     match first_tool(words) {
         None => Err(Usage::Tool),
