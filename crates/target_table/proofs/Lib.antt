@@ -1,0 +1,16 @@
+pub mod Counts
+pub mod Entering
+pub mod Found
+pub mod GptPlans
+pub mod GptTables
+pub mod GptWrites
+pub mod Records
+pub mod Placements
+pub mod Outer
+pub mod MbrParts
+pub mod MbrPlans
+pub mod MbrSlots
+pub mod MbrChain
+pub mod MbrRead
+pub mod MbrNames
+pub mod MbrSectors
