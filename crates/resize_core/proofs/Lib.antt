@@ -1,9 +1,6 @@
-pub mod Finishing
 pub mod Found
-pub mod PartsLemmas
-pub mod Placing
-pub mod ReadBack
-pub mod Stopping
-pub mod CopyLaw
-pub mod SourceLemmas
+pub mod Gathered
+pub mod Carriable
+pub mod ResizeLaw
+pub mod Sameness
 pub mod WorkLemmas

@@ -1,10 +1,6 @@
-pub mod Copying
-pub mod Finished
-pub mod Parts
-pub mod Placing
-pub mod Ready
-pub mod Same
-pub mod Sources
+pub mod Contents
+pub mod Growth
 pub mod Summary
-pub mod Targets
+pub mod Same
+pub mod Resizing
 pub mod inside

@@ -1,6 +1,2 @@
-pub mod Carrying
-pub mod Judging
-pub mod Meetings
-pub mod Naming
-pub mod Phases
+pub mod Deciding
 pub mod Working

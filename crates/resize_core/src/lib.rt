@@ -1,37 +1,29 @@
-//! Copies a disk's partitions to where a plan places them.
+//! Copies a disk to a larger or smaller one, with its partitions laid out anew.
 //!
-//! It promises upwards: [`judge`] reads sector 0 of the source once, and gives its table where it is served;
-//! [`prepare_mbr`] refuses exactly where two slots share a sector or no plan exists, and else makes [`Ready`],
-//! all that is to be written; [`carry_out`] then writes it, in an order that leaves sector 0 of the target as
-//! zeros until the rest stands. It takes no memory and answers Ok wherever
-//! no disk failed, and the target is then the finished one of `specs/Finished.antt`.
+//! It promises upwards: [`resize`] does a whole job. It attaches both disks, reads what the source is, decides, prints
+//! what it will do, writes, and says that it is done; `specs/Resizing.antt` says what a job means: which refusals are
+//! due, what the target holds when the work is done, and what is printed.
 //!
-//! It stands on disk_base for disks, on mbr_table for the table, on layout_plan for the plan and on run_copy
-//! for the copying.
+//! It stands on guest_view for what the source is, on layout_plan for the plan, on target_table for the target's
+//! table, on target_work for the writing, and on run_end for how a run ends.
 #![tactic(auto)]
 
-mod carrying;
+mod copied;
+mod growth;
 mod job;
-mod judging;
-mod parts;
-mod preparing;
+mod lines;
+mod planning;
 mod ready;
-mod refusal;
-mod source_table;
-mod summary;
-mod targets;
-mod unready;
+mod source;
 mod writing;
 
-pub use carrying::carry_out;
-pub use job::copy;
-pub use judging::judge;
-pub use preparing::prepare_mbr;
+pub use copied::{contents, placed_from};
+pub use growth::stuck_parts;
+pub use job::resize;
+pub use lines::summary;
+pub use planning::prepare;
 pub use ready::Ready;
-pub use refusal::MbrRefused;
-pub use run_copy::Transfer;
-pub use source_table::SourceTable;
-pub use unready::Unready;
+pub use source::{SourceDisk, read_source};
 
 #[cfg(test)]
 mod tests;

@@ -38,7 +38,7 @@ pub record Ended (m : Meaning) (old new : World) (end : End) : Type 0 where
   -- a stop at any moment of the run
   pub moments : IsTrue old.target.tells_stops → TellsDisks m old → IsSettled old.target.image old.target.stops
       → LeavesOnly (MayPass m old.target.image) old.target.stops new.target.stops
-  pub settled : IsTrue old.target.tells_stops → Settled old.target new.target end
+  pub settled : IsTrue old.target.tells_stops → Settled m old.target new.target end
   pub unprinted : IsTrue old.out.tells → Unprinted old.out.text new.out.text end
   pub printed : IsTrue old.out.tells → TellsDisks m old → Prints m old.target new.target old.out.text new.out.text end
 

@@ -1,5 +1,5 @@
 -- What the end of a run says, whatever the job: nothing here speaks of one tool.
-use Rattle.std.specs.Prelude.{◌≡◌, ℕ, ◌≤◌, ◌⊎◌, ◌++◌, List, Option, None, Some}
+use Rattle.std.specs.Prelude.{◌≡◌, ℕ, ◌≤◌, ◌⊎◌, ◌++◌, Bool, true, false, IsTrue, List, Option, None, Some}
 use Rattle.disk_base.specs.declared.device.DeviceFault.{DeviceFault}
 use Rattle.disk_base.specs.declared.device.DeviceFault.TheVariants as devices
 use Rattle.disk_base.specs.declared.device.Mode.{Mode}
@@ -19,6 +19,10 @@ pub record Meaning : Type 1 where
   pub refused : Refusal → Type 0
   -- there is work
   pub work : Type 0
+  -- the work writes to the target
+  pub writes : Bool
+  -- something is printed
+  pub prints : Bool
   -- the target now holds the work done
   pub finished : List ℕ → Type 0
   -- what the target may hold where a disk failed under the work
@@ -35,6 +39,8 @@ refusing refusal = record {
   target = None;
   refused = λ other. other ≡ refusal;
   work = ⊥;
+  writes = false;
+  prints = false;
   finished = λ image. ⊥;
   cut = λ fault image. ⊥;
   passes = λ image. ⊥;
@@ -62,22 +68,37 @@ IsDue m (Refused refusal) = (refusal ≡ Memory) ⊎ m.refused refusal
 IsDue m (Failed (Device fault)) = Unit {0}
 IsDue m (Failed Printing) = m.work
 
+-- the target is as it is to be: it holds the work done or, where nothing is to be written, it is untouched
+abbrev pub IsAsDue : Bool → Meaning → Held → Held → Type 0
+IsAsDue true m old new = m.finished new.image
+IsAsDue false m old new = Untouched m.target old new
+
 -- what an end leaves of the target
 abbrev pub EndLeaves : Meaning → Held → Held → End → Type 0
-EndLeaves m old new Done = m.finished new.image
+EndLeaves m old new Done = IsAsDue m.writes m old new
 EndLeaves m old new (Refused refusal) = Untouched m.target old new
 EndLeaves m old new (Failed (Device fault)) = Untouched m.target old new ⊎ m.cut fault new.image
-EndLeaves m old new (Failed Printing) = Untouched m.target old new ⊎ m.finished new.image
+EndLeaves m old new (Failed Printing) = Untouched m.target old new ⊎ IsAsDue m.writes m old new
 
 -- what a stop at any moment may leave of the target
 abbrev pub MayPass : Meaning → List ℕ → List ℕ → Type 0
 MayPass m old image = (image ≡ old) ⊎ m.passes image
 
--- where a stop leaves what the target holds: once the work is done, and after a refusal where it did so before
-abbrev pub Settled : Held → Held → End → Type 0
-Settled old new Done = IsSettled new.image new.stops
-Settled old new (Refused refusal) = IsSettled old.image old.stops → IsSettled new.image new.stops
-Settled old new (Failed failing) = Unit {0}
+-- a stop leaves what a disk holds, where it did so before
+abbrev pub StaysSettled : Held → Held → Type 0
+StaysSettled old new = IsSettled old.image old.stops → IsSettled new.image new.stops
+
+-- where a stop leaves what the target holds: once work that writes it is done and, where it did so before, where
+-- nothing is to be written
+abbrev pub SettledBy : Bool → Held → Held → Type 0
+SettledBy true old new = IsSettled new.image new.stops
+SettledBy false old new = StaysSettled old new
+
+-- the same after every end
+abbrev pub Settled : Meaning → Held → Held → End → Type 0
+Settled m old new Done = SettledBy m.writes old new
+Settled m old new (Refused refusal) = StaysSettled old new
+Settled m old new (Failed failing) = Unit {0}
 
 -- the two texts of the job, and what stands between them and the stream
 pub record HasLines (m : Meaning) (Gained : List ℕ → List ℕ → Type 0) : Type 0 where
@@ -93,7 +114,7 @@ Prints m target target' old new (Refused refusal) = new ≡ old
 Prints m target target' old new (Failed (Device fault)) = (new ≡ old) ⊎ HasLines m (λ before after. new ≡ old ++ before)
 Prints m target target' old new (Failed Printing) =
     (Untouched m.target target target' × HasLines m (λ before after. GainsPrefix before old new))
-    ⊎ (m.finished target'.image × HasLines m (λ before after. GainsPrefix after (old ++ before) new))
+    ⊎ (IsAsDue m.writes m target target' × HasLines m (λ before after. GainsPrefix after (old ++ before) new))
 
 -- a refusal prints nothing
 abbrev pub Unprinted : List ℕ → List ℕ → End → Type 0
@@ -113,11 +134,11 @@ abbrev pub IsUsed : Option Use → Type 0
 IsUsed None = ⊥
 IsUsed (Some used) = Unit {0}
 
--- the cause of a failure: which count rose, of a device that the job uses
+-- the cause of a failure: which count rose, of a device that the job uses, or of a stream that it prints to
 abbrev pub Cause : Meaning → Type 0 → Type 0 → Type 0 → End → Type 0
 Cause m source target out (Failed (Device devices.Source)) = IsUsed m.source × source
 Cause m source target out (Failed (Device devices.Target)) = IsUsed m.target × target
-Cause m source target out (Failed Printing) = out
+Cause m source target out (Failed Printing) = IsTrue m.prints × out
 Cause m source target out end = Unit {0}
 
 -- what is due of a job: work, or a refusal

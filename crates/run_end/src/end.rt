@@ -3,21 +3,37 @@ ghost use Rattle.std.specs.Prelude.{◌≡◌};
 ghost use Rattle.run_end.specs.Ending.{refusal_status, status_of};
 
 use disk_base::DeviceFault;
+use guest_view::{InspectFault, Why};
 use layout_plan::NoPlan;
 use std::fmt;
 use words::Usage;
 
+/// The content of a partition, by its number in the source, that would have to grow and can't, and why.
+#[derive(Clone, Copy, Debug, PartialEq, Eq)]
+pub struct VolumeFault {
+    pub part: u32,
+    pub why: Why,
+}
+
+impl fmt::Display for VolumeFault {
+    ghost use Rattle.std.specs.Prelude.{Some};
+    ghost use Rattle.run_end.specs.Texts.{volume_text};
+
+    ghost output = { λ fault. Some (volume_text fault) };
+
+    fn fmt<W: fmt::Write>(&self, f: &mut fmt::Formatter<W>) -> fmt::Result {
+        let VolumeFault { part, why } = *self;
+        write!(f, "/dev/sda{part}: {why}")
+    }
+}
+
 /// Why a disk is no source.
 #[derive(Clone, Copy, Debug, PartialEq, Eq)]
 pub enum SourceFault {
-    /// It has more than 2^31 sectors.
-    TooLarge { sectors: u64 },
-    /// It has no sector, or sector 0 doesn't end with 55 AA.
-    NoSignature,
-    /// That slot, counted from 1, is the first bad one.
-    Entry { number: u32 },
-    /// These are the first two slots that share a sector.
-    Overlap { a: u32, b: u32 },
+    /// It is no guest.
+    Guest(InspectFault),
+    /// A content would have to grow, and can't.
+    Volume(VolumeFault),
 }
 
 impl fmt::Display for SourceFault {
@@ -28,10 +44,8 @@ impl fmt::Display for SourceFault {
 
     fn fmt<W: fmt::Write>(&self, f: &mut fmt::Formatter<W>) -> fmt::Result {
         match *self {
-            SourceFault::TooLarge { sectors } => write!(f, "TooLarge sectors={sectors}"),
-            SourceFault::NoSignature => f.write_str("NoSignature"),
-            SourceFault::Entry { number } => write!(f, "Entry number={number}"),
-            SourceFault::Overlap { a, b } => write!(f, "Overlap a={a} b={b}"),
+            SourceFault::Guest(fault) => write!(f, "{fault}"),
+            SourceFault::Volume(fault) => write!(f, "{fault}"),
         }
     }
 }

@@ -4,10 +4,10 @@
 //! `specs/Ending.antt` says what each end promises of the disks and streams, given what the job means, and
 //! names no tool. A tool gives a `Meaning` and shows that at most one status is due of it.
 //!
-//! It stands on disk_base for disks, on words for what is wrong with words, and on layout_plan for why there is
-//! no plan.
+//! It stands on disk_base for disks, on words for what is wrong with words, on guest_view for why a disk is no
+//! guest, and on layout_plan for why there is no plan.
 #![tactic(auto)]
 
 mod end;
 
-pub use end::{End, Failing, Refusal, SourceFault, status_of};
+pub use end::{End, Failing, Refusal, SourceFault, VolumeFault, status_of};

@@ -16,13 +16,12 @@ use Rattle.disk_base.specs.declared.device.DeviceFault.TheVariants as devices
 use Rattle.run_end.specs.declared.end.Refusal.TheVariants.{NotYet, Usage as Misused, Memory}
 use Rattle.run_end.specs.Ended.{Ended, TellsDisks, World}
 use Rattle.run_end.specs.Ending.{IsDecided, IsLawful, IsToldFor, refusing, status_of}
-use Rattle.resize_core.specs.Copying.{copy_of}
-use Rattle.resize_core.proofs.CopyLaw.{copy_is_lawful}
+use Rattle.resize_core.proofs.ResizeLaw.{resize_is_lawful}
 use Rattle.run_end.proofs.EndLemmas.{decided, refusing_is_lawful, told_for, uncalled}
 use Rattle.virt_top.specs.declared.tool.Tool.{Tool}
 use Rattle.virt_top.specs.Lines.{TellsLine}
 use Rattle.virt_top.specs.Ran.{WasRun, WasUnread, meaning_on}
-use Rattle.virt_top.specs.Words.{is_plain, meaning_by, resize_if, tool_named}
+use Rattle.virt_top.specs.Words.{is_served, meaning_by, resize_if, tool_named}
 use Rattle.virt_top.specs.inside.Acts.{refusal_of_usage}
 
 -- words that are no job
@@ -47,28 +46,20 @@ ended_misused answer world (usages.Twice place) are is = inr (no_job answer worl
 ended_misused answer world (usages.Size place) are is = inr (no_job answer world (usages.Size place) are is)
 ended_misused answer world usages.Same are is = inr (no_job answer world usages.Same are is)
 
--- a job to resize, by whether it is plain
-pub resize_by : (job : ResizeJob) (plain : Bool) (old new : World) (end : End) → is_plain job ≡ plain → Ended (resize_if plain job old.source.image old.target.image) old new end
-    → Ended (resize_if (is_plain job) job old.source.image old.target.image) old new end
-resize_by job plain old new end is ended =
+-- a job to resize, by whether it is served
+pub resize_by : (job : ResizeJob) (served : Bool) (old new : World) (end : End) → is_served job ≡ served → Ended (resize_if served job old.source.image old.target.image) old new end
+    → Ended (resize_if (is_served job) job old.source.image old.target.image) old new end
+resize_by job served old new end is ended =
     let Is : Bool → Type 0 = λ b. Ended (resize_if b job old.source.image old.target.image) old new end in
     subst Is (sym is) ended
 
--- a copy of the disks that the job names
-pub copied : (job : ResizeJob) (source target : List ℕ) (old new : World) (end : End) → source ≡ job.source → target ≡ job.target
-    → Ended (copy_of source target old.source.image old.target.image) old new end → Ended (resize_if true job old.source.image old.target.image) old new end
-copied job source target old new end is_source is_target ended =
-    let From : List ℕ → Type 0 = λ name. Ended (copy_of name target old.source.image old.target.image) old new end in
-    let To : List ℕ → Type 0 = λ name. Ended (copy_of job.source name old.source.image old.target.image) old new end in
-    subst To is_target (subst From is_source ended)
-
-resize_is_lawful : (b : Bool) (job : ResizeJob) (source target : List ℕ) → IsLawful (resize_if b job source target)
-resize_is_lawful true job source target = copy_is_lawful job.source job.target source target
-resize_is_lawful false job source target = refusing_is_lawful NotYet
+lawful_if : (b : Bool) (job : ResizeJob) (source target : List ℕ) → IsLawful (resize_if b job source target)
+lawful_if true job source target = resize_is_lawful job source target
+lawful_if false job source target = refusing_is_lawful NotYet
 
 lawful_by : (answer : Result Job WordsFault) (source target : List ℕ) → IsLawful (meaning_by answer source target)
 lawful_by (Err usage) source target = refusing_is_lawful (Misused usage)
-lawful_by (Ok (jobs.Resize job)) source target = resize_is_lawful (is_plain job) job source target
+lawful_by (Ok (jobs.Resize job)) source target = lawful_if (is_served job) job source target
 lawful_by (Ok (jobs.Sparsify job)) source target = refusing_is_lawful NotYet
 
 -- what was told ended so

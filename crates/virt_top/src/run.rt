@@ -2,12 +2,13 @@
 ghost use Rattle.std.specs.Prelude.{◌≡◌, Ok, map, string_bytes};
 ghost use Rattle.words.specs.declared.job.Job.TheVariants.{Resize as ToResize};
 ghost use Rattle.virt_top.specs.Ran.{Ran, Uncalled, UncalledBy};
+ghost use Rattle.words.specs.Plannable.{IsPlannable, MayBePlanned};
 ghost use Rattle.virt_top.specs.inside.Acts.{Acted, ActedBy, refusal_of_usage};
 
 use crate::report::report;
-use crate::tool::{is_plain, tool_of};
+use crate::tool::{is_served, tool_of};
 use disk_base::{Disk, Sink};
-use resize_core::copy;
+use resize_core::resize;
 use run_end::{End, Refusal, status_of};
 use std::alloc::Global;
 use words::{Job, ResizeJob, Usage, read_words};
@@ -22,30 +23,24 @@ fn refusal_of(usage: Usage) -> Refusal
     }
 }
 
-// A copy with its partitions laid out anew; only one without wishes and options is served.
-fn resize<S: Disk, T: Disk, O: Sink>(
+// A copy with its partitions laid out anew, where it is served.
+fn resize_served<S: Disk, T: Disk, O: Sink>(
     alloc: Global,
     job: &ResizeJob,
     source: &mut S,
     target: &mut T,
     out: &mut O,
 ) -> End
+    requires { IsPlannable job.now }
     ensures uncalled { UncalledBy (Ok (ToResize job.now))
         source.old source.new target.old target.new out.old out.new }
     ensures ended { ActedBy (Ok (ToResize job.now)) S.Blocks S.Disk.own T.Blocks T.Disk.own O.Sink
         source.old target.old out.old source.new target.new out.new result }
 {
-    if !is_plain(job) {
+    if !is_served(job) {
         return End::Refused(Refusal::NotYet);
     }
-    copy(
-        alloc,
-        job.source.bytes(),
-        job.target.bytes(),
-        source,
-        target,
-        out,
-    )
+    resize(alloc, job, source, target, out)
 }
 
 // Does a job, and gives how it ended.
@@ -56,12 +51,13 @@ fn act_on<S: Disk, T: Disk, O: Sink>(
     target: &mut T,
     out: &mut O,
 ) -> End
+    requires { MayBePlanned job.now }
     ensures uncalled { UncalledBy (Ok job.now) source.old source.new target.old target.new out.old out.new }
     ensures ended { ActedBy (Ok job.now) S.Blocks S.Disk.own T.Blocks T.Disk.own O.Sink
         source.old target.old out.old source.new target.new out.new result }
 {
     match job {
-        Job::Resize(job) => resize(alloc, job, source, target, out),
+        Job::Resize(job) => resize_served(alloc, job, source, target, out),
         Job::Sparsify(_) => End::Refused(Refusal::NotYet),
     }
 }

@@ -206,13 +206,20 @@ fn targets_that_fit_and_that_do_not(rt: HostRuntime) -> Result<(), Fail> {
 #[test]
 fn what_is_no_job_or_no_source_is_told(rt: HostRuntime) -> Result<(), Fail> {
     let alloc = rt.alloc();
-    let cases: [(&[&str], u16, &[Slot], u8, &[u8]); 14] = [
+    let cases: [(&[&str], u16, &[Slot], u8, &[u8]); 15] = [
         (
-            &["virt-resize", "-n", "a", "b"],
+            &["virt-resize", "--lv-expand", "vg/root", "a", "b"],
             8,
             &[],
             9,
             b"virt-resize: not yet\n",
+        ),
+        (
+            &["virt-sparsify", "--in-place", "a"],
+            8,
+            &[],
+            9,
+            b"virt-sparsify: not yet\n",
         ),
         (
             &["virt-sparsify", "a", "b"],
@@ -283,15 +290,15 @@ fn what_is_no_job_or_no_source_is_told(rt: HostRuntime) -> Result<(), Fail> {
             &["virt-resize", "a", "b"],
             8,
             &[(0xEE, 1, 7)],
-            9,
-            b"virt-resize: not yet\n",
+            2,
+            b"virt-resize: source: NoHeader\n",
         ),
         (
             &["virt-resize", "a", "b"],
             8,
             &[(0x83, 1, 2), (0x0F, 4, 2)],
-            9,
-            b"virt-resize: not yet\n",
+            2,
+            b"virt-resize: source: Chain at=4\n",
         ),
     ];
     for (words, sectors, slots, status, line) in cases {
@@ -343,19 +350,19 @@ const TARGET: &[u8] = b"virt-resize: target device\n";
 
 const PRINTING: &[u8] = b"virt-resize: printing\n";
 
-// The source is attached, read once for its table, ten times for the content and once for the boot area.
+// The source is attached, read three times for its table, ten times for the content and once for the boot area.
 #[test]
 fn each_call_of_the_source_may_fail(rt: HostRuntime) -> Result<(), Fail> {
     let alloc = rt.alloc();
-    for number in 0..14 {
+    for number in 0..16 {
         let failing = Failing {
             source: Some(number),
             ..NONE
         };
         let left = failing_copy(alloc, failing)?;
         let (status, out, err, table) = match number {
-            0..=1 => (5, b"".as_slice(), SOURCE, 0x5A),
-            13 => (0, ALL, b"".as_slice(), 0x55),
+            0..=3 => (5, b"".as_slice(), SOURCE, 0x5A),
+            15 => (0, ALL, b"".as_slice(), 0x55),
             _ => (5, SUMMARY, SOURCE, 0),
         };
         assert_eq!(rt;

@@ -1,11 +1,10 @@
 //! What the words name, and which jobs are served.
 ghost use Rattle.std.specs.Prelude.{◌≡◌, map, codes, string_bytes};
 ghost use Rattle.std.specs.Str.{bytes_eq};
-ghost use Rattle.virt_top.specs.Words.{is_plain, tool_named, word_at};
+ghost use Rattle.virt_top.specs.Words.{is_served, tool_named, word_at};
 ghost use Rattle.virt_top.specs.Lines.{tool_text};
 
-use layout_plan::Layout;
-use words::{ResizeJob, Unknown};
+use words::ResizeJob;
 
 /// What the first word names.
 #[derive(Clone, Copy, Debug, PartialEq, Eq)]
@@ -16,18 +15,11 @@ pub enum Tool {
     Unnamed,
 }
 
-/// Whether a job has no wishes and no options.
-pub fn is_plain(job: &ResizeJob) -> bool
-    ensures { result ≡ is_plain job.now }
+/// Whether a job is served: it expands no logical volume.
+pub fn is_served(job: &ResizeJob) -> bool
+    ensures { result ≡ is_served job.now }
 {
-    let Layout {
-        align,
-        always,
-        extra,
-    } = job.layout;
-    let asks = !job.wishes.items().is_empty() || !job.lvs.items().is_empty();
-    let copies = job.boot && job.grow && job.unknown == Unknown::Warn && job.sparse;
-    !asks && align == 128 && !always && extra && copies && !job.dry && !job.quiet
+    job.lvs.items().is_empty()
 }
 
 // The first word, or nothing.
