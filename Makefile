@@ -5,16 +5,16 @@ PROGRAM = crates/virt_top/out/virt_top
 
 .PHONY: build demo test install bench
 
-# Proves and builds the program, and looks whether what was built answers.
+# Proves and builds the program, and looks whether what was built answers: there is no disk `a`, which is status 5.
 build:
 	@command -v rt > /dev/null || { echo "make: there is no rt: README.md names the kit that is needed" >&2; exit 1; }
 	@echo "Proving and building the program. The first time this takes five to ten minutes, since every"
 	@echo "function is proved to meet its contract before it is compiled; build/build.log tells how far it is."
 	@mkdir -p build
-	@cd crates/virt_top && rt run -- virt-resize --dry-run a b > ../../build/build.log 2>&1; test $$? -eq 9 || { tail -n 20 ../../build/build.log; exit 1; }
+	@cd crates/virt_top && rt run -- virt-resize --dry-run a b > ../../build/build.log 2>&1; test $$? -eq 5 || { tail -n 20 ../../build/build.log; exit 1; }
 	@test "$$($(PROGRAM) virt-sparsify 2>&1)" = 'virt-sparsify: usage: Missing' || { echo "make: what was built doesn't answer" >&2; exit 1; }
 
-# Copies a sample disk to a larger one, and shows what became of it.
+# Copies a sample disk with a GPT to a larger one, and shows what became of it.
 demo: build
 	@demo/run
 
