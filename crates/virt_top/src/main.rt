@@ -9,6 +9,8 @@
 mod file_tests;
 mod files;
 mod report;
+#[cfg(test)]
+mod resize_tests;
 mod run;
 mod streams;
 #[cfg(test)]

@@ -7,23 +7,23 @@ use std::test::Fail;
 
 // What a run left: its status, its two texts, and what the target holds.
 #[derive(Debug, Drop)]
-struct Seen {
-    status: u8,
-    out: Vec<u8>,
-    err: Vec<u8>,
-    target: Vec<u8>,
+pub(crate) struct Seen {
+    pub(crate) status: u8,
+    pub(crate) out: Vec<u8>,
+    pub(crate) err: Vec<u8>,
+    pub(crate) target: Vec<u8>,
 }
 
 // The call, by its number, at which each device fails.
 #[derive(Clone, Copy, Debug)]
-struct Failing {
-    source: Option<u64>,
-    target: Option<u64>,
-    out: Option<u64>,
-    err: Option<u64>,
+pub(crate) struct Failing {
+    pub(crate) source: Option<u64>,
+    pub(crate) target: Option<u64>,
+    pub(crate) out: Option<u64>,
+    pub(crate) err: Option<u64>,
 }
 
-const NONE: Failing = Failing {
+pub(crate) const NONE: Failing = Failing {
     source: None,
     target: None,
     out: None,
@@ -38,7 +38,7 @@ fn listed(alloc: Global, number: Option<u64>) -> Result<Vec<u64>, AllocError> {
 }
 
 // A disk of `sectors` sectors that hold `byte`.
-fn filled(alloc: Global, sectors: u64, byte: u8) -> Result<Vec<u8>, AllocError>
+pub(crate) fn filled(alloc: Global, sectors: u64, byte: u8) -> Result<Vec<u8>, AllocError>
     requires { sectors ≤ 131072 }
     ensures { IfOk result (λ image. length image.items ≡ 512 * sectors) }
 {
@@ -46,17 +46,17 @@ fn filled(alloc: Global, sectors: u64, byte: u8) -> Result<Vec<u8>, AllocError>
 }
 
 // Puts bytes into an image where they fit.
-fn put(image: &mut [u8], at: usize, bytes: &[u8]) {
+pub(crate) fn put(image: &mut [u8], at: usize, bytes: &[u8]) {
     if at <= image.len() && bytes.len() <= image.len() - at {
         image[at..at + bytes.len()].copy_from_slice(bytes);
     }
 }
 
 // A slot of a table, as type, first sector and number of sectors.
-type Slot = (u8, u32, u32);
+pub(crate) type Slot = (u8, u32, u32);
 
 // Makes sector 0 a table with the signature and these slots.
-fn put_table(image: &mut [u8], slots: &[Slot]) {
+pub(crate) fn put_table(image: &mut [u8], slots: &[Slot]) {
     put(image, 0, &[0; 510]);
     put(image, 510, &[0x55, 0xAA]);
     for (i, (kind, start, count)) in slots.iter().take(4).enumerate() {
@@ -67,7 +67,12 @@ fn put_table(image: &mut [u8], slots: &[Slot]) {
 }
 
 // A disk with such a table; each other sector holds `byte`.
-fn with_slots(alloc: Global, sectors: u64, byte: u8, slots: &[Slot]) -> Result<Vec<u8>, AllocError>
+pub(crate) fn with_slots(
+    alloc: Global,
+    sectors: u64,
+    byte: u8,
+    slots: &[Slot],
+) -> Result<Vec<u8>, AllocError>
     requires { sectors ≤ 131072 }
     ensures { IfOk result (λ image. length image.items ≡ 512 * sectors) }
 {
@@ -95,7 +100,7 @@ fn limits() -> MemLimits
     }
 }
 
-fn after_run(
+pub(crate) fn after_run(
     alloc: Global,
     words: &[&str],
     source: Vec<u8>,
@@ -138,11 +143,11 @@ fn copied_to(alloc: Global, sectors: u64) -> Result<Seen, AllocError>
 const KEPT: &[u8] = b"/dev/sda1: kept 2048+20480 -> /dev/sda1 2048+20480\ndone\n";
 
 // A part of an image, or nothing where it doesn't reach so far.
-fn part(image: &[u8], from: usize, to: usize) -> &[u8] {
+pub(crate) fn part(image: &[u8], from: usize, to: usize) -> &[u8] {
     image.get(from..to).unwrap_or(&[])
 }
 
-fn are_all(bytes: &[u8], byte: u8) -> bool {
+pub(crate) fn are_all(bytes: &[u8], byte: u8) -> bool {
     bytes.iter().all(|one| *one == byte)
 }
 
@@ -318,11 +323,11 @@ fn what_is_no_job_or_no_source_is_told(rt: HostRuntime) -> Result<(), Fail> {
 // What a run over a disk of bytes 5A leaves: its status, its lines, and a byte of sector 0, which tells what
 // that was (5A), zeros (0) or a new table (55).
 #[derive(Drop)]
-struct Left {
-    status: u8,
-    out: Vec<u8>,
-    err: Vec<u8>,
-    table: Option<u8>,
+pub(crate) struct Left {
+    pub(crate) status: u8,
+    pub(crate) out: Vec<u8>,
+    pub(crate) err: Vec<u8>,
+    pub(crate) table: Option<u8>,
 }
 
 // Copies the disk with one partition, with a call that fails.
@@ -344,9 +349,9 @@ const SUMMARY: &[u8] =
 const ALL: &[u8] =
     b"/dev/sda1: kept 2048+20480 -> /dev/sda1 2048+20480\nextra: /dev/sda2 22528+43008\ndone\n";
 
-const SOURCE: &[u8] = b"virt-resize: source device\n";
+pub(crate) const SOURCE: &[u8] = b"virt-resize: source device\n";
 
-const TARGET: &[u8] = b"virt-resize: target device\n";
+pub(crate) const TARGET: &[u8] = b"virt-resize: target device\n";
 
 const PRINTING: &[u8] = b"virt-resize: printing\n";
 
