@@ -1,2 +1,5 @@
 pub mod Searches
 pub mod Contents
+pub mod Seeing
+pub mod Faults
+pub mod Pieces

@@ -62,3 +62,43 @@ fn fork_at<'a>(geo: &Super, core: &Core, bytes: &'a [u8], attribute: bool) -> Fo
         }
     }
 }
+
+/// Whether a fork holds its local bytes, its list of extents, or the root of their tree.
+fn has_room(fork: &Fork<'_>) -> bool
+    ensures { result ≡ has_room (length fork.now.bytes.now) (fork_as_data fork.now) }
+{
+    let len = fork.bytes.len();
+    if fork.format == 1 {
+        return fork.local <= len as u64;
+    }
+    if fork.format == 2 {
+        return fork.count <= (len / 16) as u64;
+    }
+    if fork.format == 3 {
+        return len >= 4 && 4 + 16 * usize::from(big_u16(fork.bytes, 2)) <= len;
+    }
+    true
+}
+
+/// A fork of an inode, as its core says, where it holds what it has to.
+pub(crate) fn fork_in<'a>(
+    geo: &Super,
+    core: &Core,
+    bytes: &'a [u8],
+    attribute: bool,
+) -> Option<Fork<'a>>
+    requires { length bytes.now ≡ geo.now.inodesize }
+    ensures { MatchOption result
+        (fork_holds (fork_of (geometry_of geo.now) core.now bytes.now attribute) ≡ false)
+        (λ fork. (fork_as_data fork ≡ fork_of (geometry_of geo.now) core.now bytes.now attribute)
+        × (fork_holds (fork_as_data fork) ≡ true)) }
+{
+    if !has_forks(geo, core) {
+        return None;
+    }
+    let fork = fork_at(geo, core, bytes, attribute);
+    if !has_room(&fork) {
+        return None;
+    }
+    Some(fork)
+}
