@@ -3,3 +3,4 @@ pub mod Contents
 pub mod Seeing
 pub mod Faults
 pub mod Pieces
+pub mod Judged

@@ -1,3 +1,5 @@
 pub mod Searching
 pub mod Telling
 pub mod Reading
+pub mod Targets
+pub mod Judging

@@ -9,6 +9,7 @@ ghost use Rattle.xfs_inode.specs.Inode.{front_inode};
 ghost use Rattle.xfs_inode.specs.inside.Searching.{FillsFile};
 ghost use Rattle.xfs_super.specs.Super.{geometry_of};
 
+use crate::bytes::part;
 use crate::core_fields::Core;
 use crate::place::{BLOCK, block_of, read_block};
 use crate::search::find_extent;
@@ -52,15 +53,6 @@ fn load<B: Blocks>(
             Ok(())
         }
     }
-}
-
-/// The `len` bytes from byte `from` on.
-fn part(bytes: &[u8], from: usize, len: usize) -> &[u8]
-    requires { from + len ≤ length bytes.now }
-    ensures bytes { result.now ≡ bytes_at bytes.now from len }
-    ensures long { length result.now ≡ len }
-{
-    &bytes[from..from + len]
 }
 
 /// As many bytes of a regular file of `size` bytes from byte `offset` on as there are and `out` has room for.

@@ -126,7 +126,10 @@ pub(crate) fn core_in(geo: &Super, bytes: &[u8]) -> Core
 
 impl Core {
     ghost use Rattle.std.specs.Prelude.{◌≡◌};
-    ghost use Rattle.xfs_inode.specs.Core.{is_directory, is_regular_file, is_link, is_device, is_special_file, has_directory_format, has_kind_and_format};
+    ghost use Rattle.xfs_inode.specs.Core.{is_directory, is_regular_file, is_link, is_device, is_special_file, has_kind_and_format};
+    ghost use Rattle.xfs_inode.specs.Inode.{is_root_sound, needs_target_block};
+    ghost use Rattle.xfs_inode.specs.Seen.{fits_core};
+    ghost use Rattle.xfs_super.specs.Super.{geometry_of};
 
     /// Whether it is a directory.
     pub fn is_directory(&self) -> bool
@@ -172,5 +175,31 @@ impl Core {
             || self.is_regular_file() && listed
             || self.is_link() && (format == 1 || format == 2)
             || self.is_special_file() && format == 0
+    }
+
+    /// Whether it spells that inode of the volume, with a kind of file and its format, and no link that is too
+    /// long.
+    pub(crate) fn fits(&self, geo: &Super, ino: u64) -> bool
+        ensures { result ≡ fits_core (geometry_of geo.now) ino self.now }
+    {
+        self.version == 3
+            && self.ino == ino
+            && self.uuid == geo.meta
+            && self.has_kind_and_format()
+            && (!self.is_link() || self.size <= 1024)
+    }
+
+    /// Whether it is a directory, if it is the root inode.
+    pub(crate) fn is_root_sound(&self, geo: &Super, ino: u64) -> bool
+        ensures { result ≡ is_root_sound (geometry_of geo.now) ino self.now }
+    {
+        ino != geo.rootino || self.is_directory()
+    }
+
+    /// Whether it is a link whose target stands in a block of its own.
+    pub(crate) fn needs_target_block(&self) -> bool
+        ensures { result ≡ needs_target_block self.now }
+    {
+        self.is_link() && self.format == 2 && self.size > 0
     }
 }

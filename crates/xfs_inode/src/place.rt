@@ -72,6 +72,17 @@ pub(crate) fn block_of(geo: &Super, extent: &Extent, number: u64) -> u64
     first_block(geo, extent) + (number - extent.file)
 }
 
+/// The number of the block that holds an inode, and at which byte of the block the inode begins.
+pub(crate) fn inode_place(geo: &Super, ino: u64) -> (u64, usize)
+    ensures number { result.0 ≡ ino / 2 ^ geo.now.inopblog }
+    ensures offset { result.1 ≡ ino % 2 ^ geo.now.inopblog * geo.now.inodesize }
+    ensures inside { result.1 + geo.now.inodesize ≤ 4096 }
+{
+    let number = ino >> geo.inopblog;
+    let index = ino - (number << geo.inopblog);
+    (number, index as usize * geo.inodesize as usize)
+}
+
 /// The sector of 512 bytes at which a block of the volume begins.
 pub(crate) fn sector_of(geo: &Super, at: u64) -> u64
     requires { at < geo.now.dblocks }
