@@ -1,6 +1,6 @@
 -- What content_at fills in, a piece at a time.
-use Rattle.std.proofs.Common.{◌≡◌, ℕ, ◌+◌, ◌-◌, ◌*◌, ◌/◌, ◌%◌, ◌<◌, ◌≤◌, cond, true, false, Option, Some, None, List, ◌++◌, length, take, drop, slice_index, replicate, length-take, ◌==◌, refl, sym, ap, ◌∙◌, arith, rules, inl, inr, mod-lt, min, [], subst}
-use Rattle.std.proofs.lemmas.List.{places, same_lists, nil_from_length}
+use Rattle.std.proofs.Common.{◌≡◌, ℕ, ◌+◌, ◌-◌, ◌*◌, ◌/◌, ◌%◌, ◌<◌, ◌≤◌, true, false, Option, None, List, length, take, drop, slice_index, length-take, ◌==◌, refl, sym, ap, ◌∙◌, arith, inl, inr, min, [], subst}
+use Rattle.std.proofs.lemmas.List.{places, nil_from_length}
 use Rattle.std.proofs.lemmas.Bool.{cases_lt, cond-true, cond-false, eq-eqb, ne_eqb}
 use Rattle.std.proofs.lemmas.Nat.{div-add-mod', div-mul-add, mod-mul-add}
 use Rattle.disk_base.specs.Image.{bytes_at, with_bytes}

@@ -1,12 +1,9 @@
 -- A fork that was read is sound, or a reason speaks against it.
 use Rattle.std.proofs.Common.{◌≡◌, ℕ, ◌+◌, ◌*◌, Bool, List, ◌++◌, ◌⊎◌, inl, inr, refl, sym, ap, subst, ◌∙◌, arith, true, false}
-use Rattle.std.proofs.lemmas.Bool.{both_ways}
 use Rattle.block_claims.specs.Agreement.{Claimed, IsTwice}
-use Rattle.block_claims.proofs.Agreements.{twice_on, twice_more, times_in-append}
+use Rattle.block_claims.proofs.Agreements.{twice_on, times_in-append}
 use Rattle.xfs_super.specs.Geometry.{Geometry}
-use Rattle.xfs_super.specs.declared.reason.CheckFault.{CheckFault}
 use Rattle.xfs_super.specs.declared.reason.CheckFault.TheVariants as check
-use Rattle.xfs_super.specs.declared.reason.Reason.{Reason}
 use Rattle.xfs_super.specs.declared.reason.Reason.TheVariants as why
 use Rattle.xfs_tree.specs.Block.{Sight}
 use Rattle.xfs_tree.specs.Fork.{IsRootFault}
@@ -19,8 +16,8 @@ use Rattle.xfs_tree.specs.declared.fault.TreeFault.TheVariants as tree
 use Rattle.xfs_inode.specs.Core.{InodeFork, fork_holds, fork_of}
 use Rattle.xfs_inode.specs.declared.core_fields.Core.{Core}
 use Rattle.xfs_inode.specs.Extents.{AreSoundExtents}
-use Rattle.xfs_inode.specs.ForkReading.{IsSoundForkTree, IsSoundFork, IsBadForkTree, HasTwiceInFork, SpeaksAgainstFork, HasFaultInFork}
-use Rattle.xfs_inode.specs.Seen.{SeenFork, fork_seen, fork_tree, fork_extents, fork_claims, extents_seen, extent_setting}
+use Rattle.xfs_inode.specs.ForkReading.{IsSoundForkTree, IsSoundFork, IsBadForkTree, SpeaksAgainstFork, HasFaultInFork}
+use Rattle.xfs_inode.specs.Seen.{SeenFork, fork_seen, fork_tree, fork_extents, fork_claims, extent_setting}
 use Rattle.xfs_inode.specs.inside.Reading.{IsReadFork, IsReadFault}
 use Rattle.xfs_inode.specs.inside.Telling.{told_of_fork, extents_blocks}
 use Rattle.xfs_inode.proofs.Seeing.{seen_levels, seen_extents, seen_claims}

@@ -1,5 +1,5 @@
 -- An inode that was read is sound, or isn't.
-use Rattle.std.proofs.Common.{◌≡◌, ℕ, zero, suc, ◌+◌, ◌-◌, ◌*◌, ◌/◌, ◌<◌, ◌≤◌, Bool, true, false, not, ◌&&◌, ◌||◌, ◌==◌, nat_lt, nat_le, cond, Option, Some, None, List, [], ◌∷◌, map, inl, inr, refl, sym, ap, subst, ◌∙◌, arith}
+use Rattle.std.proofs.Common.{◌≡◌, ℕ, suc, ◌+◌, ◌-◌, ◌/◌, ◌<◌, ◌≤◌, Bool, true, false, not, ◌&&◌, ◌||◌, ◌==◌, nat_lt, nat_le, Option, Some, None, List, [], ◌∷◌, map, inl, inr, refl, sym, ap, subst, ◌∙◌, arith}
 use Rattle.std.specs.List.{range_with_len}
 use Rattle.std.proofs.lemmas.Bool.{cases_Bool, and_parts, eqb-true, cond-true, cond-false, lt-ltb, ltb-true, leb-true}
 use Rattle.std.proofs.lemmas.Bool.Decides.{nat_tests}
@@ -9,11 +9,11 @@ use Rattle.xfs_inode.specs.declared.core_fields.Core.{Core}
 use Rattle.xfs_inode.specs.Core.{core_of, InodeFork, data_fork, attribute_fork, fork_holds}
 use Rattle.disk_base.specs.Fields.{big_at}
 use Rattle.xfs_super.specs.Superblock.{has_checksum}
-use Rattle.xfs_inode.specs.Extents.{block_named, extent_blocks, listed_extents, covers, covering}
+use Rattle.xfs_inode.specs.Extents.{block_named, listed_extents, covers, covering}
 use Rattle.xfs_inode.specs.Inode.{needs_target_block, spells_target_block, is_target_block, has_target, is_root_sound, is_sound_inode}
-use Rattle.xfs_inode.specs.Seen.{FileBlock, file_block_at, SeenExtent, extent_seen, head_block, first_file_block, fork_tree, fork_extents, fork_seen, shown_data, spells_inode, holds_forks, fits_core, SeenInode, inode_of, inode_seen, inode_bytes}
+use Rattle.xfs_inode.specs.Seen.{FileBlock, file_block_at, SeenExtent, extent_seen, head_block, first_file_block, fork_tree, fork_extents, fork_seen, shown_data, spells_inode, holds_forks, fits_core, inode_of, inode_seen, inode_bytes}
 use Rattle.xfs_inode.specs.inside.Judging.{is_judged, IsJudgedCore}
-use Rattle.xfs_inode.specs.inside.Targets.{target_extent, HasNoPlace, IsPlace, BeginsBehindVolume}
+use Rattle.xfs_inode.specs.inside.Targets.{target_extent, HasNoPlace, IsPlace}
 use Rattle.xfs_inode.proofs.Seeing.{listed_in}
 
 not_below : (m n : ℕ) → n ≤ m → nat_lt m n ≡ false
@@ -21,7 +21,7 @@ not_below m n h = grind (arith, nat_tests)
 
 -- ---- the block of a target
 
-abbrev block_at_place : (ℕ → List ℕ) → Geometry → Option Extent → Option FileBlock
+abbrev pub block_at_place : (ℕ → List ℕ) → Geometry → Option Extent → Option FileBlock
 block_at_place volume geo None = None
 block_at_place volume geo (Some e) = Some (file_block_at volume (block_named geo e.block))
 
@@ -35,7 +35,7 @@ some_block e h =
     let ends : 0 < e.file + e.count = ltb-true 0 (e.file + e.count) parts.1 in
     omega arith
 
-first_of : (volume : ℕ → List ℕ) (geo : Geometry) (es : List Extent) → first_file_block (map (extent_seen volume geo) es) ≡ block_at_place volume geo (covering 0 es)
+pub first_of : (volume : ℕ → List ℕ) (geo : Geometry) (es : List Extent) → first_file_block (map (extent_seen volume geo) es) ≡ block_at_place volume geo (covering 0 es)
 unfolding extent_seen
 first_of volume geo [] = refl
 first_of volume geo (e ∷ es) = elim (cases_Bool (covers 0 e)) [

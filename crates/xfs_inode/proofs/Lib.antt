@@ -4,3 +4,8 @@ pub mod Seeing
 pub mod Faults
 pub mod Pieces
 pub mod Judged
+pub mod Chunking
+pub mod ChunkFaults
+pub mod Same
+pub mod Excluded
+pub mod Readings

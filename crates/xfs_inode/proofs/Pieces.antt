@@ -1,7 +1,9 @@
 -- Claims on the blocks of things, one thing after the other.
-use Rattle.std.proofs.Common.{◌≡◌, ℕ, ◌+◌, ◌*◌, ◌<◌, List, ◌∷◌, ◌++◌, length, take, drop, get_or, sym, ap, subst, ◌∙◌, arith}
+use Rattle.std.proofs.Common.{◌≡◌, ℕ, ◌+◌, ◌*◌, ◌<◌, ◌≤◌, List, ◌∷◌, ◌++◌, length, take, drop, get_or, sym, ap, subst, ◌∙◌, arith}
 use Rattle.std.specs.List.{flat_map, range_with_len}
 use Rattle.std.proofs.lemmas.Grind.{flat_map-append, take_at_read}
+use Rattle.std.proofs.lemmas.List.{take_all}
+use Rattle.std.proofs.lemmas.List.FromFn.{length-range_with_len, get_or-range_with_len}
 use Rattle.block_claims.specs.Agreement.{Claimed}
 use Rattle.block_claims.proofs.Agreements.{claimed_on, times_in-append}
 use Rattle.xfs_tree.proofs.Levels.{pieces_more, list_at}
@@ -45,3 +47,21 @@ claimed_from old new m n count e p = subst (λ (k : ℕ). Claimed old (range_wit
 
 pub fault_from : (a : ℕ) (old : ℕ → ℕ) (m n count : ℕ) (fault : TreeFault) → m ≡ n → IsClaimFault a old (range_with_len m count) fault → IsClaimFault a old (range_with_len n count) fault
 fault_from a old m n count fault e p = subst (λ (k : ℕ). IsClaimFault a old (range_with_len k count) fault) e p
+
+-- the same of things that are counted
+module _ (blocks : ℕ → List ℕ) (n : ℕ) where
+  nth : (j : ℕ) → j < n → j ≡ get_or (range_with_len 0 n) j 0
+  nth j lt = let is : get_or (range_with_len 0 n) j 0 ≡ 0 + j = get_or-range_with_len 0 n j 0 lt in omega (arith, is)
+
+  pub counted_more : (old mid new : ℕ → ℕ) (j : ℕ) → j < n → Claimed old (flat_map blocks (take j (range_with_len 0 n))) mid
+      → Claimed mid (blocks j) new → Claimed old (flat_map blocks (take (j + 1) (range_with_len 0 n))) new
+  counted_more old mid new j lt p q =
+      claimed_more blocks 0 old mid new (range_with_len 0 n) j (omega (arith, lt, length-range_with_len 0 n)) p (subst (λ (i : ℕ). Claimed mid (blocks i) new) (nth j lt) q)
+
+  pub counted_fault : (old mid : ℕ → ℕ) (a j : ℕ) (fault : TreeFault) → j < n → Claimed old (flat_map blocks (take j (range_with_len 0 n))) mid
+      → IsClaimFault a mid (blocks j) fault → IsClaimFault a old (flat_map blocks (range_with_len 0 n)) fault
+  counted_fault old mid a j fault lt p due =
+      claim_fault_in blocks 0 old mid a (range_with_len 0 n) j fault (omega (arith, lt, length-range_with_len 0 n)) p (subst (λ (i : ℕ). IsClaimFault a mid (blocks i) fault) (nth j lt) due)
+
+  pub counted_all : (old new : ℕ → ℕ) (j : ℕ) → n ≤ j → Claimed old (flat_map blocks (take j (range_with_len 0 n))) new → Claimed old (flat_map blocks (range_with_len 0 n)) new
+  counted_all old new j le p = subst (λ (l : List ℕ). Claimed old (flat_map blocks l) new) (take_all j (range_with_len 0 n) (omega (arith, le, length-range_with_len 0 n))) p

@@ -1,6 +1,6 @@
 -- What is seen of a fork: its extents, and what it claims.
-use Rattle.std.proofs.Common.{◌≡◌, ℕ, ◌+◌, ◌<◌, cond, ◌==◌, List, [], ◌∷◌, ◌++◌, map, length, refl, sym, ap, ◌∙◌, arith, true, false}
-use Rattle.std.specs.List.{All, flat_map}
+use Rattle.std.proofs.Common.{◌≡◌, ℕ, ◌==◌, List, [], ◌∷◌, ◌++◌, map, refl, ap, ◌∙◌, arith}
+use Rattle.std.specs.List.{flat_map}
 use Rattle.std.proofs.lemmas.Bool.{cond-true, cond-false, eq-eqb, ne_eqb}
 use Rattle.std.proofs.lemmas.List.Elements.{All-nil}
 use Rattle.xfs_super.specs.Geometry.{Geometry}
@@ -11,7 +11,7 @@ use Rattle.xfs_tree.specs.Tree.{blocks_of, leaves_of, records_of, IsSoundTree}
 use Rattle.xfs_tree.specs.declared.extent.Extent.{Extent}
 use Rattle.xfs_inode.specs.Core.{InodeFork}
 use Rattle.xfs_inode.specs.Extents.{extent_blocks, listed_extents}
-use Rattle.xfs_inode.specs.Seen.{FileBlock, file_block_at, SeenExtent, extent_seen, extent_claims, SeenFork, fork_tree, fork_extents, fork_with, fork_seen, fork_claims, extents_seen, extent_setting}
+use Rattle.xfs_inode.specs.Seen.{FileBlock, file_block_at, SeenExtent, extent_seen, extent_claims, fork_tree, fork_extents, fork_seen, fork_claims, extents_seen, extent_setting}
 use Rattle.xfs_inode.specs.inside.Telling.{extents_blocks}
 
 numbers_again : (volume : ℕ → List ℕ) (xs : List ℕ) → map (λ (b : FileBlock). b.at) (map (file_block_at volume) xs) ≡ xs

@@ -1,5 +1,5 @@
 -- What a file contains, by its extents. A volume is a function from a block's number to its bytes.
-use Rattle.std.specs.Prelude.{◌≡◌, ◌==◌, [], ℕ, ◌+◌, ◌-◌, ◌*◌, ◌/◌, ◌%◌, ◌<◌, ◌≤◌, min, cond, Option, Some, None, List, replicate, map, length, slice_index}
+use Rattle.std.specs.Prelude.{◌≡◌, ◌==◌, [], ℕ, ◌+◌, ◌-◌, ◌/◌, ◌%◌, ◌<◌, ◌≤◌, min, cond, Option, Some, None, List, replicate, map, length, slice_index}
 use Rattle.std.specs.List.{range_with_len}
 use Rattle.disk_base.specs.Image.{bytes_at}
 use Rattle.xfs_super.specs.Geometry.{Geometry}

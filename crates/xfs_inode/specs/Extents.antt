@@ -1,6 +1,6 @@
 -- The extents of a fork: which blocks of the file and of the volume they are (XFS Algorithms & Data Structures, 'Data
 -- Extents'). An extent's `block` names its first block of the volume, with the group in its upper bits.
-use Rattle.std.specs.Prelude.{◌≡◌, ℕ, ◌+◌, ◌-◌, ◌*◌, ◌/◌, ◌%◌, ◌^◌, ◌<◌, Bool, ◌&&◌, nat_le, nat_lt, cond, IsTrue, Option, Some, None, List, [], ◌∷◌, map}
+use Rattle.std.specs.Prelude.{ℕ, ◌+◌, ◌*◌, ◌/◌, ◌%◌, ◌^◌, ◌<◌, Bool, ◌&&◌, nat_le, nat_lt, cond, IsTrue, Option, Some, None, List, [], ◌∷◌, map}
 use Rattle.std.specs.List.{All, range_with_len}
 use Rattle.disk_base.specs.Image.{bytes_at}
 use Rattle.xfs_super.specs.Geometry.{Geometry}

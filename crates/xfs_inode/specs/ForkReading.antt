@@ -1,5 +1,5 @@
 -- When a fork that is seen is sound, and which reasons speak against it.
-use Rattle.std.specs.Prelude.{◌≡◌, ℕ, ◌+◌, ◌*◌, Bool, true, false, List, ◌⊎◌}
+use Rattle.std.specs.Prelude.{◌≡◌, ℕ, Bool, true, false, List, ◌⊎◌}
 use Rattle.block_claims.specs.Agreement.{block, IsTwice}
 use Rattle.xfs_super.specs.Geometry.{Geometry}
 use Rattle.xfs_super.specs.Super.{geometry_of}
@@ -12,7 +12,6 @@ use Rattle.xfs_tree.specs.Block.{Sight}
 use Rattle.xfs_tree.specs.Fork.{IsSoundRoot, IsRootFault}
 use Rattle.xfs_tree.specs.Marks.{Claims, marked, AreFree, AreClaimed}
 use Rattle.xfs_tree.specs.Tree.{blocks_of, IsSoundTree, HasTreeFault}
-use Rattle.xfs_tree.specs.declared.extent.Extent.{Extent}
 use Rattle.xfs_tree.specs.declared.fault.TreeFault.{TreeFault}
 use Rattle.xfs_tree.specs.declared.fault.TreeFault.TheVariants as tree
 use Rattle.xfs_inode.specs.declared.core_fields.Core.{Core}

@@ -4,5 +4,6 @@ pub mod Content
 pub mod Seen
 pub mod Inode
 pub mod ForkReading
+pub mod Chunks
 pub mod Laws
 pub mod inside

@@ -1,6 +1,6 @@
 -- An inode as it is seen: a value that has each block which belongs to it, so that what is computed of it needs no volume.
 -- A volume is a function from a block's number to its bytes.
-use Rattle.std.specs.Prelude.{ℕ, ◌+◌, ◌-◌, ◌*◌, ◌/◌, ◌%◌, ◌^◌, Bool, ◌==◌, ◌&&◌, ◌||◌, not, nat_le, cond, Option, Some, None, List, [], ◌∷◌, ◌++◌, map, slice_index, get_or}
+use Rattle.std.specs.Prelude.{ℕ, ◌-◌, ◌*◌, ◌/◌, ◌%◌, ◌^◌, Bool, ◌==◌, ◌&&◌, ◌||◌, not, nat_le, cond, Option, Some, None, List, [], ◌∷◌, ◌++◌, map, slice_index, get_or}
 use Rattle.std.specs.List.{range_with_len, flat_map}
 use Rattle.std.specs.Str.{bytes_eq}
 use Rattle.disk_base.specs.Fields.{big_at}

@@ -3,3 +3,4 @@ pub mod Telling
 pub mod Reading
 pub mod Targets
 pub mod Judging
+pub mod ReadingChunks

@@ -1,9 +1,23 @@
-//! The inodes of an XFS volume, and what their files contain.
+//! The inodes of an XFS volume, the extents of their forks, and what their files contain.
+//!
+//! It is for whoever reads such a volume: [`chunks_of`] reads the tree of a group's chunks of inodes, [`read_inode`]
+//! one inode, [`extents_of`] the extents of one of its forks, and [`content_at`] a piece of what it contains, at once
+//! whatever the size of the file.
+//!
+//! It promises, exactly: each of the first three answers only where no reason speaks against what it read, and a
+//! reason only where it does; chunks and extents claim just the blocks of their trees and their own, none twice; and
+//! the bytes of a content are those of the extents, zeros where there is none. What is seen of an inode is a value
+//! that has all its blocks, of which all else is a function: `specs/Core.antt`, `specs/Seen.antt` and
+//! `specs/Chunks.antt` have it, after the XFS Algorithms & Data Structures guide, `specs/Inode.antt` and
+//! `specs/ForkReading.antt` the reasons, and `specs/Content.antt` the content. It depends on the blocks that it claims
+//! alone ([`inodes_stand_in_claims`]).
 //!
 //! It stands on xfs_tree, for trees, extents and claims, on xfs_super and on disk_base.
 #![tactic(auto)]
 
 mod bytes;
+mod chunk;
+mod chunks;
 mod claiming;
 mod content;
 mod core_fields;
@@ -11,11 +25,15 @@ mod extent;
 mod extents;
 mod fork;
 mod inode;
+mod laws;
 mod place;
 mod search;
 mod target;
 
+pub use chunk::{inode_number, is_allocated};
+pub use chunks::chunks_of;
 pub use content::content_at;
 pub use core_fields::Core;
 pub use extents::extents_of;
 pub use inode::read_inode;
+pub use laws::{content_is_read, inodes_stand_in_claims, inodes_stay_in_growth, no_inode_reason};

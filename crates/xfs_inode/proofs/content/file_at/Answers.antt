@@ -1,4 +1,4 @@
-use Rattle.std.proofs.Common.{◌≡◌, ◌∙◌, ℕ, ◌+◌, ◌-◌, ◌*◌, ◌/◌, ◌%◌, ◌<◌, ◌≤◌, List, sym, ap, arith, refl, length, mod-lt}
+use Rattle.std.proofs.Common.{◌≡◌, ◌∙◌, ℕ, ◌+◌, ◌-◌, ◌/◌, ◌%◌, ◌<◌, ◌≤◌, List, ap, arith, refl, length, mod-lt}
 use Rattle.xfs_inode.specs.Content.{file_block}
 use Rattle.block_claims.specs.Agreement.{block}
 use Rattle.xfs_super.specs.Super.{geometry_of}

@@ -1,4 +1,4 @@
-use Rattle.std.proofs.Common.{◌≡◌, ◌∙◌, sym, Some, None, ℕ, ap, arith, replicate}
+use Rattle.std.proofs.Common.{◌∙◌, sym, Some, None, ap}
 use Rattle.std.proofs.lemmas.Bool.{cond-true, cond-false}
 use Rattle.block_claims.specs.Agreement.{block}
 use Rattle.xfs_super.specs.Super.{geometry_of}

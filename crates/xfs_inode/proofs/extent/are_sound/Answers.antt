@@ -1,4 +1,4 @@
-use Rattle.std.proofs.Common.{◌≡◌, ℕ, ◌+◌, ◌<◌, length, subst, inl, inr, sym, arith}
+use Rattle.std.proofs.Common.{◌≡◌, ℕ, subst, inl, inr, arith}
 use Rattle.std.proofs.lemmas.Bool.{cases_lt}
 use Rattle.xfs_super.specs.Super.{geometry_of}
 use Rattle.xfs_inode.specs.inside.Searching.{IsSoundAt}

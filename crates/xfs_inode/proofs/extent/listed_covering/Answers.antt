@@ -1,7 +1,7 @@
-use Rattle.std.proofs.Common.{◌≡◌, ◌∙◌, ℕ, ◌+◌, ◌-◌, Some, sym, ap, arith, true}
+use Rattle.std.proofs.Common.{◌∙◌, ℕ, ◌+◌, ◌-◌, Some, sym, ap, arith}
 use Rattle.std.proofs.lemmas.Bool.{cond-true, cond-false}
 use Rattle.xfs_tree.specs.declared.extent.Extent.{Extent}
-use Rattle.xfs_inode.specs.Extents.{listed_extent, covers, covering}
+use Rattle.xfs_inode.specs.Extents.{listed_extent, covers}
 use Rattle.xfs_inode.proofs.Searches.{covering_step}
 use Rattle.xfs_inode.proofs.extent.listed_covering.Goals as goal
 

@@ -1,9 +1,8 @@
-use Rattle.std.proofs.Common.{◌≡◌, ◌∙◌, ℕ, List, sym, ap, subst}
+use Rattle.std.proofs.Common.{◌∙◌, sym, ap, subst}
 use Rattle.block_claims.specs.Agreement.{block}
 use Rattle.xfs_super.specs.Super.{geometry_of}
 use Rattle.xfs_super.specs.declared.reason.Reason.TheVariants as why
 use Rattle.xfs_tree.specs.Marks.{marked}
-use Rattle.xfs_tree.specs.declared.extent.Extent.{Extent}
 use Rattle.xfs_inode.specs.Core.{InodeFork}
 use Rattle.xfs_inode.specs.Extents.{AreSoundExtents}
 use Rattle.xfs_inode.specs.ForkReading.{fork_on, IsSoundForkOn, HasFaultInForkOn, ClaimedByFork, SpeaksAgainstFork}

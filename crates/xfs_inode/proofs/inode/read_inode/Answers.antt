@@ -1,4 +1,4 @@
-use Rattle.std.proofs.Common.{◌≡◌, ◌∙◌, ℕ, List, sym, ap, subst}
+use Rattle.std.proofs.Common.{◌∙◌, ℕ, List, sym, ap}
 use Rattle.block_claims.specs.Agreement.{block}
 use Rattle.xfs_super.specs.Super.{geometry_of}
 use Rattle.xfs_inode.specs.Inode.{front_inode}

@@ -1,4 +1,4 @@
-use Rattle.std.proofs.Common.{◌≡◌, ◌∙◌, ℕ, ◌+◌, ◌<◌, ◌≤◌, List, Some, length, slice_index_or, subst, sym, ap, arith}
+use Rattle.std.proofs.Common.{◌<◌, subst, sym, arith}
 use Rattle.std.proofs.lemmas.List.{get_or_default}
 use Rattle.xfs_tree.specs.declared.extent.Extent.{Extent}
 use Rattle.xfs_inode.proofs.Searches.{covering_none, covering_there}
