@@ -14,11 +14,11 @@ use Rattle.xfs_tree.specs.declared.fault.TreeFault.TheVariants as tree
 use Rattle.xfs_tree.specs.declared.sparse_chunk.SparseChunk.{SparseChunk}
 use Rattle.xfs_inode.specs.Chunks.{IsSoundChunk, tree_chunks, chunks_blocks, chunk_claims, inode_number, HasInodeTreeFault, AreSoundChunks, IsBadChunk, HasChunkFault}
 use Rattle.xfs_inode.specs.inside.ReadingChunks.{AreReadChunks, IsChunkReadFault, IsUnsoundAt}
-use Rattle.xfs_inode.specs.inside.Telling.{told_of_fork}
+use Rattle.xfs_inode.specs.inside.Telling.{told_of_tree}
 
 module _ (geo : Geometry) (group : ℕ) (levels : List (List Sight)) (old : ℕ → ℕ) where
   -- the tree is refused
-  tree_refused : (fault : TreeFault) → HasInodeTreeFault geo group levels old fault → HasChunkFault geo group levels old (told_of_fork geo.agblocks fault)
+  tree_refused : (fault : TreeFault) → HasInodeTreeFault geo group levels old fault → HasChunkFault geo group levels old (told_of_tree geo.agblocks fault)
   tree_refused (tree.Checksum g b) due = record { fault = tree.Checksum g b; names = (refl, refl); due = due }
   tree_refused (tree.Header g b) due = record { fault = tree.Header g b; names = (refl, refl); due = due }
   tree_refused (tree.Level g b) due = record { fault = tree.Level g b; names = (refl, refl); due = due }
@@ -29,8 +29,8 @@ module _ (geo : Geometry) (group : ℕ) (levels : List (List Sight)) (old : ℕ 
   tree_refused tree.Device due = tt
   tree_refused tree.Memory due = tt
 
-  pub chunk_read_refused : (fault : TreeFault) → IsChunkReadFault geo group levels old fault → HasChunkFault geo group levels old (told_of_fork geo.agblocks fault)
-  chunk_read_refused fault (inl memory) = subst (λ (x : TreeFault). HasChunkFault geo group levels old (told_of_fork geo.agblocks x)) (sym memory) tt
+  pub chunk_read_refused : (fault : TreeFault) → IsChunkReadFault geo group levels old fault → HasChunkFault geo group levels old (told_of_tree geo.agblocks fault)
+  chunk_read_refused fault (inl memory) = subst (λ (x : TreeFault). HasChunkFault geo group levels old (told_of_tree geo.agblocks x)) (sym memory) tt
   chunk_read_refused fault (inr due) = tree_refused fault due
 
   -- a chunk is
@@ -47,7 +47,7 @@ module _ (geo : Geometry) (group : ℕ) (levels : List (List Sight)) (old : ℕ 
 
   -- a block of theirs was claimed before
   pub chunk_claims_refused : (mid : ℕ → ℕ) (chunks : List SparseChunk) (fault : TreeFault) → chunks ≡ tree_chunks geo group levels → All (IsSoundChunk geo group) chunks → Claimed old (blocks_of levels) mid
-      → IsClaimFault geo.agblocks mid (chunks_blocks geo group chunks) fault → HasChunkFault geo group levels old (told_of_fork geo.agblocks fault)
+      → IsClaimFault geo.agblocks mid (chunks_blocks geo group chunks) fault → HasChunkFault geo group levels old (told_of_tree geo.agblocks fault)
   chunk_claims_refused mid chunks (tree.Checksum g b) is sound claimed due = absurd due
   chunk_claims_refused mid chunks (tree.Header g b) is sound claimed due = absurd due
   chunk_claims_refused mid chunks (tree.Level g b) is sound claimed due = absurd due

@@ -17,11 +17,11 @@ use Rattle.xfs_tree.specs.declared.fault.TreeFault.TheVariants as tree
 use Rattle.xfs_inode.specs.Chunks.{tree_chunks, chunks_blocks, chunk_setting, IsSoundInodeTree, AreSoundChunks, IsBadInodeTree, SpeaksAgainstChunks}
 use Rattle.xfs_tree.specs.declared.sparse_chunk.SparseChunk.{SparseChunk}
 use Rattle.xfs_inode.specs.Core.{InodeFork}
-use Rattle.xfs_inode.specs.ForkReading.{IsSoundForkTree, NamesForkBlock, IsSoundFork, IsBadForkTree, SpeaksAgainstFork}
+use Rattle.xfs_inode.specs.ForkReading.{IsSoundForkTree, NamesTreeBlock, IsSoundFork, IsBadForkTree, SpeaksAgainstFork}
 use Rattle.xfs_inode.specs.Inode.{is_sound_inode, SpeaksAgainstInode}
 use Rattle.xfs_inode.specs.Seen.{SeenFork, SeenInode, extent_claims, extent_setting}
 
-tree_excludes : {R : Type 0} (t : Setting R) (geo : Geometry) (levels : List (List Sight)) (claimed : ℕ → ℕ) (fault : TreeFault) (g b : ℕ) → IsSoundTree t geo levels → NamesForkBlock g b fault → HasTreeFault t geo levels claimed fault → ⊥
+tree_excludes : {R : Type 0} (t : Setting R) (geo : Geometry) (levels : List (List Sight)) (claimed : ℕ → ℕ) (fault : TreeFault) (g b : ℕ) → IsSoundTree t geo levels → NamesTreeBlock g b fault → HasTreeFault t geo levels claimed fault → ⊥
 tree_excludes t geo levels claimed (tree.Checksum h k) g b sound names due = sound_excludes t geo (all_sights levels) (tree.Checksum h k) sound.blocks due
 tree_excludes t geo levels claimed (tree.Header h k) g b sound names due = sound_excludes t geo (all_sights levels) (tree.Header h k) sound.blocks due
 tree_excludes t geo levels claimed (tree.Level h k) g b sound names due = sound_excludes t geo (all_sights levels) (tree.Level h k) sound.blocks due

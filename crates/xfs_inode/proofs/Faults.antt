@@ -19,7 +19,7 @@ use Rattle.xfs_inode.specs.Extents.{AreSoundExtents}
 use Rattle.xfs_inode.specs.ForkReading.{IsSoundForkTree, IsSoundFork, IsBadForkTree, SpeaksAgainstFork, HasFaultInFork}
 use Rattle.xfs_inode.specs.Seen.{SeenFork, fork_seen, fork_tree, fork_extents, fork_claims, extent_setting}
 use Rattle.xfs_inode.specs.inside.Reading.{IsReadFork, IsReadFault}
-use Rattle.xfs_inode.specs.inside.Telling.{told_of_fork, extents_blocks}
+use Rattle.xfs_inode.specs.inside.Telling.{told_of_tree, extents_blocks}
 use Rattle.xfs_inode.proofs.Seeing.{seen_levels, seen_extents, seen_claims}
 
 module _ (geo : Geometry) (volume : ℕ → List ℕ) (f : InodeFork) (old : ℕ → ℕ) where
@@ -33,7 +33,7 @@ module _ (geo : Geometry) (volume : ℕ → List ℕ) (f : InodeFork) (old : ℕ
   bad_tree fault g b holds bad = (holds, subst (λ (l : List (List Sight)). IsBadForkTree geo f l g b) (sym (seen_levels volume geo f)) bad)
 
   -- the tree is refused
-  pub tree_refused : (fault : TreeFault) → fork_holds f ≡ true → f.format ≡ 3 → (IsRootFault (extent_setting geo f.ino) geo f.bytes fault) ⊎ (HasTreeFault (extent_setting geo f.ino) geo levels old fault) → HasFaultInFork geo f seen old (told_of_fork geo.agblocks fault)
+  pub tree_refused : (fault : TreeFault) → fork_holds f ≡ true → f.format ≡ 3 → (IsRootFault (extent_setting geo f.ino) geo f.bytes fault) ⊎ (HasTreeFault (extent_setting geo f.ino) geo levels old fault) → HasFaultInFork geo f seen old (told_of_tree geo.agblocks fault)
   tree_refused (tree.Checksum g b) holds three (inl due) = absurd due
   tree_refused (tree.Checksum g b) holds three (inr due) = bad_tree (tree.Checksum g b) g b holds (record { rooted = three; fault = tree.Checksum g b; names = (refl, refl); due = inr due })
   tree_refused (tree.Header g b) holds three (inl due) = absurd due
@@ -50,8 +50,8 @@ module _ (geo : Geometry) (volume : ℕ → List ℕ) (f : InodeFork) (old : ℕ
   tree_refused tree.Device holds three due = tt
   tree_refused tree.Memory holds three due = tt
 
-  pub read_refused : (fault : TreeFault) → fork_holds f ≡ true → IsReadFault geo volume f old fault → HasFaultInFork geo f seen old (told_of_fork geo.agblocks fault)
-  read_refused fault holds (inl memory) = subst (λ (x : TreeFault). HasFaultInFork geo f seen old (told_of_fork geo.agblocks x)) (sym memory) tt
+  pub read_refused : (fault : TreeFault) → fork_holds f ≡ true → IsReadFault geo volume f old fault → HasFaultInFork geo f seen old (told_of_tree geo.agblocks fault)
+  read_refused fault holds (inl memory) = subst (λ (x : TreeFault). HasFaultInFork geo f seen old (told_of_tree geo.agblocks x)) (sym memory) tt
   read_refused fault holds (inr due) = tree_refused fault holds due.0 due.1
 
   -- the extents are
@@ -61,7 +61,7 @@ module _ (geo : Geometry) (volume : ℕ → List ℕ) (f : InodeFork) (old : ℕ
 
   -- a block of theirs was claimed before
   pub claims_refused : (mid : ℕ → ℕ) (es : List Extent) (fault : TreeFault) → fork_holds f ≡ true → es ≡ fork_extents geo f levels → AreSoundExtents geo es → Claimed old (blocks_of levels) mid
-      → IsClaimFault geo.agblocks mid (extents_blocks geo es) fault → HasFaultInFork geo f seen old (told_of_fork geo.agblocks fault)
+      → IsClaimFault geo.agblocks mid (extents_blocks geo es) fault → HasFaultInFork geo f seen old (told_of_tree geo.agblocks fault)
   claims_refused mid es (tree.Checksum g b) holds is sound claimed due = absurd due
   claims_refused mid es (tree.Header g b) holds is sound claimed due = absurd due
   claims_refused mid es (tree.Level g b) holds is sound claimed due = absurd due

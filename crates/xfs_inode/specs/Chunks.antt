@@ -21,7 +21,7 @@ use Rattle.xfs_tree.specs.Tree.{levels_below, blocks_of, records_of, IsSoundTree
 use Rattle.xfs_tree.specs.declared.chunk.Chunk.{Chunk}
 use Rattle.xfs_tree.specs.declared.fault.TreeFault.{TreeFault}
 use Rattle.xfs_tree.specs.declared.sparse_chunk.SparseChunk.{SparseChunk}
-use Rattle.xfs_inode.specs.ForkReading.{NamesForkBlock}
+use Rattle.xfs_inode.specs.ForkReading.{NamesTreeBlock}
 
 -- ---- the inodes of a chunk
 
@@ -110,7 +110,7 @@ pub record AreSoundChunks (geo : Geometry) (group : ℕ) (levels : List (List Si
 -- the tree has a fault of the block itself there
 pub record IsBadInodeTree (geo : Geometry) (group : ℕ) (levels : List (List Sight)) (g b : ℕ) : Type 0 where
   pub fault : TreeFault
-  pub names : NamesForkBlock g b fault
+  pub names : NamesTreeBlock g b fault
   pub due : HasInodeTreeFault geo group levels (λ n. 0) fault
 
 -- a chunk isn't sound, whose first inode has that number

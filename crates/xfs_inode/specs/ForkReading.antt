@@ -37,21 +37,21 @@ pub record IsSoundFork (geo : Geometry) (f : InodeFork) (s : SeenFork) (claimed 
 -- ---- which reasons speak against it
 
 -- a fault names that block, and speaks of the block itself
-abbrev pub NamesForkBlock : ℕ → ℕ → TreeFault → Type 0
-NamesForkBlock g b (tree.Checksum h k) = (h ≡ g) × (k ≡ b)
-NamesForkBlock g b (tree.Header h k) = (h ≡ g) × (k ≡ b)
-NamesForkBlock g b (tree.Level h k) = (h ≡ g) × (k ≡ b)
-NamesForkBlock g b (tree.Order h k) = (h ≡ g) × (k ≡ b)
-NamesForkBlock g b (tree.Range h k) = (h ≡ g) × (k ≡ b)
-NamesForkBlock g b (tree.Marked h k) = ⊥
-NamesForkBlock g b tree.Device = ⊥
-NamesForkBlock g b tree.Memory = ⊥
+abbrev pub NamesTreeBlock : ℕ → ℕ → TreeFault → Type 0
+NamesTreeBlock g b (tree.Checksum h k) = (h ≡ g) × (k ≡ b)
+NamesTreeBlock g b (tree.Header h k) = (h ≡ g) × (k ≡ b)
+NamesTreeBlock g b (tree.Level h k) = (h ≡ g) × (k ≡ b)
+NamesTreeBlock g b (tree.Order h k) = (h ≡ g) × (k ≡ b)
+NamesTreeBlock g b (tree.Range h k) = (h ≡ g) × (k ≡ b)
+NamesTreeBlock g b (tree.Marked h k) = ⊥
+NamesTreeBlock g b tree.Device = ⊥
+NamesTreeBlock g b tree.Memory = ⊥
 
 -- the fork holds the root of a tree, and the root or a block of the tree has such a fault there
 pub record IsBadForkTree (geo : Geometry) (f : InodeFork) (levels : List (List Sight)) (g b : ℕ) : Type 0 where
   pub rooted : f.format ≡ 3
   pub fault : TreeFault
-  pub names : NamesForkBlock g b fault
+  pub names : NamesTreeBlock g b fault
   pub due :
       IsRootFault (extent_setting geo f.ino) geo f.bytes fault
       ⊎ HasTreeFault (extent_setting geo f.ino) geo levels (λ n. 0) fault

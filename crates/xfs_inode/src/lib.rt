@@ -37,3 +37,4 @@ pub use core_fields::Core;
 pub use extents::extents_of;
 pub use inode::read_inode;
 pub use laws::{content_is_read, inodes_stand_in_claims, inodes_stay_in_growth, no_inode_reason};
+pub use place::lies_in_volume;

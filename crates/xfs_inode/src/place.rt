@@ -1,8 +1,9 @@
 //! Where blocks of a volume stand.
-ghost use Rattle.std.specs.Prelude.{◌≡◌, ◌+◌, ◌*◌, ◌/◌, ◌-◌, ◌%◌, ◌^◌, ◌<◌, ◌≤◌, IsTrue, true, OnOk, MatchOption};
+ghost use Rattle.std.specs.Prelude.{◌≡◌, ◌+◌, ◌*◌, ◌/◌, ◌-◌, ◌%◌, ◌^◌, ◌<◌, ◌≤◌, IsTrue, ◌↔◌, true, OnOk, MatchOption};
 ghost use Rattle.block_claims.specs.Agreement.{block};
 ghost use Rattle.disk_base.specs.Faults.{HasCause};
 ghost use Rattle.xfs_inode.specs.Extents.{block_named, covers};
+ghost use Rattle.xfs_inode.specs.Seen.{inode_block};
 ghost use Rattle.xfs_super.specs.Super.{geometry_of};
 ghost use Rattle.xfs_tree.specs.Records.{by_file};
 
@@ -81,6 +82,17 @@ pub(crate) fn inode_place(geo: &Super, ino: u64) -> (u64, usize)
     let number = ino >> geo.inopblog;
     let index = ino - (number << geo.inopblog);
     (number, index as usize * geo.inodesize as usize)
+}
+
+/// Whether the block that holds an inode lies in the volume.
+pub fn lies_in_volume(geo: &Super, ino: u64) -> bool
+    ensures { IsTrue result ↔ (inode_block (geometry_of geo.now) ino < geo.now.dblocks) }
+{
+    let (number, _) = inode_place(geo, ino);
+    match block_inside(geo, number) {
+        Some(_) => true,
+        None => false,
+    }
 }
 
 /// The sector of 512 bytes at which a block of the volume begins.

@@ -14,15 +14,15 @@ use Rattle.xfs_inode.specs.Extents.{extent_blocks}
 use Rattle.std.specs.Prelude.{true}
 
 -- where groups have that many blocks
-abbrev pub told_of_fork : ℕ → TreeFault → CheckFault
-told_of_fork agblocks (tree.Checksum g b) = check.Bad (why.Tree g b)
-told_of_fork agblocks (tree.Header g b) = check.Bad (why.Tree g b)
-told_of_fork agblocks (tree.Level g b) = check.Bad (why.Tree g b)
-told_of_fork agblocks (tree.Order g b) = check.Bad (why.Tree g b)
-told_of_fork agblocks (tree.Range g b) = check.Bad (why.Tree g b)
-told_of_fork agblocks (tree.Marked g b) = check.Bad (why.ClaimedTwice (g * agblocks + b))
-told_of_fork agblocks tree.Device = check.Device
-told_of_fork agblocks tree.Memory = check.Memory
+abbrev pub told_of_tree : ℕ → TreeFault → CheckFault
+told_of_tree agblocks (tree.Checksum g b) = check.Bad (why.Tree g b)
+told_of_tree agblocks (tree.Header g b) = check.Bad (why.Tree g b)
+told_of_tree agblocks (tree.Level g b) = check.Bad (why.Tree g b)
+told_of_tree agblocks (tree.Order g b) = check.Bad (why.Tree g b)
+told_of_tree agblocks (tree.Range g b) = check.Bad (why.Tree g b)
+told_of_tree agblocks (tree.Marked g b) = check.Bad (why.ClaimedTwice (g * agblocks + b))
+told_of_tree agblocks tree.Device = check.Device
+told_of_tree agblocks tree.Memory = check.Memory
 
 -- a fork that lies in its inode, as data
 abbrev pub fork_as_data : Fork → InodeFork

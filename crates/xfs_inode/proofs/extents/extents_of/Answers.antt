@@ -8,7 +8,7 @@ use Rattle.xfs_inode.specs.Extents.{AreSoundExtents}
 use Rattle.xfs_inode.specs.ForkReading.{fork_on, IsSoundForkOn, HasFaultInForkOn, ClaimedByFork, SpeaksAgainstFork}
 use Rattle.xfs_inode.specs.Inode.{front_inode}
 use Rattle.xfs_inode.specs.Seen.{extents_seen}
-use Rattle.xfs_inode.specs.inside.Telling.{told_of_fork, fork_as_data}
+use Rattle.xfs_inode.specs.inside.Telling.{told_of_tree, fork_as_data}
 use Rattle.xfs_inode.proofs.Faults.{read_refused, extents_refused, claims_refused, all_claimed, fork_is_sound, ino_of_fork}
 use Rattle.xfs_inode.proofs.Seeing.{seen_extents}
 use Rattle.xfs_inode.proofs.extents.extents_of.Goals as goal
@@ -20,7 +20,7 @@ returns-in-Err-clause-fault g c =
     let image = g.B.Blocks.image c.args.disk.now in
     let f = fork_as_data c.in-Some.fork in
     let due = read_refused (geometry_of geo) (block image) f (marked geo.agblocks (g.M.Mark.claimed c.args.marks.now)) c.in-Err.fault c.in-Some.ensures.1 (c.in-Err.ensures.fault told) in
-    rw c.told.ensures (subst (λ (x : InodeFork). HasFaultInForkOn geo x image (g.M.Mark.claimed c.args.marks.now) (told_of_fork geo.agblocks c.in-Err.fault)) c.in-Some.ensures.0 due)
+    rw c.told.ensures (subst (λ (x : InodeFork). HasFaultInForkOn geo x image (g.M.Mark.claimed c.args.marks.now) (told_of_tree geo.agblocks c.in-Err.fault)) c.in-Some.ensures.0 due)
 
 pub returns-then-not-are_sound-clause-fault : goal.returns-then-not-are_sound-clause-fault
 returns-then-not-are_sound-clause-fault g c =
@@ -44,7 +44,7 @@ returns-in-Err-claim_extents-clause-fault g c =
     let is = c.items-2.ensures ∙ (c.in-Ok.ensures.fork told).extents_are in
     let sound = subst (AreSoundExtents (geometry_of geo)) (c.items.ensures ∙ sym c.items-2.ensures) (c.are_sound.ensures.yes c.if-not-are_sound.false) in
     let due = claims_refused (geometry_of geo) (block image) f (mark (g.M.Mark.claimed c.args.marks.now)) (mark (g.M.Mark.claimed c.read_extents.new.marks)) c.items-2.result.now c.in-Err-claim_extents.fault c.in-Some.ensures.1 is sound (c.in-Ok.ensures.claimed told) c.in-Err-claim_extents.ensures.fault in
-    rw c.told-in-Err-claim_extents.ensures (subst (λ (x : InodeFork). HasFaultInForkOn geo x image (g.M.Mark.claimed c.args.marks.now) (told_of_fork geo.agblocks c.in-Err-claim_extents.fault)) c.in-Some.ensures.0 due)
+    rw c.told-in-Err-claim_extents.ensures (subst (λ (x : InodeFork). HasFaultInForkOn geo x image (g.M.Mark.claimed c.args.marks.now) (told_of_tree geo.agblocks c.in-Err-claim_extents.fault)) c.in-Some.ensures.0 due)
 
 pub returns-clause-sound : goal.returns-clause-sound
 returns-clause-sound g c =
