@@ -101,8 +101,8 @@ pub record SeenInode : Type 0 where
   pub attributes : SeenFork
 
 -- a fork of bytes that don't spell the inode shows nothing
-abbrev pub shown : Bool → InodeFork → InodeFork
-shown spelt f = record {
+abbrev pub shown_format : Bool → InodeFork → InodeFork
+shown_format spelt f = record {
   ino = f.ino;
   lies = f.lies;
   format = cond spelt f.format 0;
@@ -112,10 +112,10 @@ shown spelt f = record {
 }
 
 abbrev pub shown_data : Geometry → ℕ → List ℕ → InodeFork
-shown_data geo ino bytes = shown (spells_inode geo ino bytes) (data_fork geo (core_of geo bytes) bytes)
+shown_data geo ino bytes = shown_format (spells_inode geo ino bytes) (data_fork geo (core_of geo bytes) bytes)
 
 abbrev pub shown_attributes : Geometry → ℕ → List ℕ → InodeFork
-shown_attributes geo ino bytes = shown (spells_inode geo ino bytes) (attribute_fork geo (core_of geo bytes) bytes)
+shown_attributes geo ino bytes = shown_format (spells_inode geo ino bytes) (attribute_fork geo (core_of geo bytes) bytes)
 
 unfoldable pub inode_of : Geometry → (ℕ → List ℕ) → ℕ → List ℕ → SeenInode
 inode_of geo volume ino bytes = record {
