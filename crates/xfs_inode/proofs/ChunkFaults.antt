@@ -14,7 +14,7 @@ use Rattle.xfs_tree.specs.declared.fault.TreeFault.TheVariants as tree
 use Rattle.xfs_tree.specs.declared.sparse_chunk.SparseChunk.{SparseChunk}
 use Rattle.xfs_inode.specs.Chunks.{IsSoundChunk, tree_chunks, chunks_blocks, chunk_claims, inode_number, HasInodeTreeFault, AreSoundChunks, IsBadChunk, HasChunkFault}
 use Rattle.xfs_inode.specs.inside.ReadingChunks.{AreReadChunks, IsChunkReadFault, IsUnsoundAt}
-use Rattle.xfs_inode.specs.inside.Telling.{told_of_tree}
+use Rattle.xfs_inode.specs.TreeFaults.{told_of_tree}
 
 module _ (geo : Geometry) (group : ℕ) (levels : List (List Sight)) (old : ℕ → ℕ) where
   -- the tree is refused

@@ -19,7 +19,8 @@ use Rattle.xfs_inode.specs.Extents.{AreSoundExtents}
 use Rattle.xfs_inode.specs.ForkReading.{IsSoundForkTree, IsSoundFork, IsBadForkTree, SpeaksAgainstFork, HasFaultInFork}
 use Rattle.xfs_inode.specs.Seen.{SeenFork, fork_seen, fork_tree, fork_extents, fork_claims, extent_setting}
 use Rattle.xfs_inode.specs.inside.Reading.{IsReadFork, IsReadFault}
-use Rattle.xfs_inode.specs.inside.Telling.{told_of_tree, extents_blocks}
+use Rattle.xfs_inode.specs.inside.Telling.{extents_blocks}
+use Rattle.xfs_inode.specs.TreeFaults.{told_of_tree}
 use Rattle.xfs_inode.proofs.Seeing.{seen_levels, seen_extents, seen_claims}
 
 module _ (geo : Geometry) (volume : ℕ → List ℕ) (f : InodeFork) (old : ℕ → ℕ) where

@@ -1,4 +1,4 @@
--- An inode that was read is sound, or isn't.
+-- An inode whose bytes were read is sound, or isn't.
 use Rattle.std.proofs.Common.{◌≡◌, ℕ, suc, ◌+◌, ◌-◌, ◌/◌, ◌<◌, ◌≤◌, Bool, true, false, not, ◌&&◌, ◌||◌, ◌==◌, nat_lt, nat_le, Option, Some, None, List, [], ◌∷◌, map, inl, inr, refl, sym, ap, subst, ◌∙◌, arith}
 use Rattle.std.specs.List.{range_with_len}
 use Rattle.std.proofs.lemmas.Bool.{cases_Bool, and_parts, eqb-true, cond-true, cond-false, lt-ltb, ltb-true, leb-true}
@@ -11,7 +11,7 @@ use Rattle.disk_base.specs.Fields.{big_at}
 use Rattle.xfs_super.specs.Superblock.{has_checksum}
 use Rattle.xfs_inode.specs.Extents.{block_named, listed_extents, covers, covering}
 use Rattle.xfs_inode.specs.Inode.{needs_target_block, spells_target_block, is_target_block, has_target, is_root_sound, is_sound_inode}
-use Rattle.xfs_inode.specs.Seen.{FileBlock, file_block_at, SeenExtent, extent_seen, head_block, first_file_block, fork_tree, fork_extents, fork_seen, shown_data, spells_inode, holds_forks, fits_core, inode_of, inode_seen, inode_bytes}
+use Rattle.xfs_inode.specs.Seen.{FileBlock, file_block_at, SeenExtent, extent_seen, head_block, first_file_block, fork_tree, fork_extents, fork_seen, shown_data, spells_inode, holds_forks, fits_core, inode_of}
 use Rattle.xfs_inode.specs.inside.Judging.{is_judged, IsJudgedCore}
 use Rattle.xfs_inode.specs.inside.Targets.{target_extent, HasNoPlace, IsPlace}
 use Rattle.xfs_inode.proofs.Seeing.{listed_in}
@@ -106,25 +106,20 @@ no_need needs t h = ap (λ (b : Bool). not b || t) h
 a_need : (needs t : Bool) → needs ≡ true → (not needs || t) ≡ t
 a_need needs t h = ap (λ (b : Bool). not b || t) h
 
-module _ (geo : Geometry) (volume : ℕ → List ℕ) (ino : ℕ) (bytes : List ℕ) (is : bytes ≡ inode_bytes geo volume ino) where
-  on_disk : (b : Bool) → is_sound_inode geo (inode_of geo volume ino bytes) ≡ b → is_sound_inode geo (inode_seen geo volume ino) ≡ b
-  on_disk b h = ap (λ (l : List ℕ). is_sound_inode geo (inode_of geo volume ino l)) (sym is) ∙ h
-
-  named : ino ≡ (inode_seen geo volume ino).ino
-  named = same_ino geo volume ino (inode_bytes geo volume ino)
-
+module _ (geo : Geometry) (volume : ℕ → List ℕ) (ino : ℕ) (bytes : List ℕ) where
   -- the bytes don't pass
-  pub unjudged : is_judged geo ino bytes ≡ false → (ino ≡ (inode_seen geo volume ino).ino) × (is_sound_inode geo (inode_seen geo volume ino) ≡ false)
-  unjudged h = (named, on_disk false (sound_is geo volume ino bytes ∙ none_of_both (spells_inode geo ino bytes) _ (is_root_sound geo ino (core_of geo bytes)) h))
+  pub unjudged : is_judged geo ino bytes ≡ false → (ino ≡ (inode_of geo volume ino bytes).ino) × (is_sound_inode geo (inode_of geo volume ino bytes) ≡ false)
+  unjudged h =
+      (same_ino geo volume ino bytes, sound_is geo volume ino bytes ∙ none_of_both (spells_inode geo ino bytes) _ (is_root_sound geo ino (core_of geo bytes)) h)
 
   by_target : is_judged geo ino bytes ≡ true → is_sound_inode geo (inode_of geo volume ino bytes) ≡ has_target geo (core_of geo bytes) (inode_of geo volume ino bytes)
   by_target passes = sound_is geo volume ino bytes ∙ all_of_both (spells_inode geo ino bytes) _ (is_root_sound geo ino (core_of geo bytes)) passes
 
   -- they do, and no target is needed
-  pub sound_alone : (core : Core) → IsJudgedCore geo ino bytes core → needs_target_block core ≡ false → is_sound_inode geo (inode_seen geo volume ino) ≡ true
+  pub sound_alone : (core : Core) → IsJudgedCore geo ino bytes core → needs_target_block core ≡ false → is_sound_inode geo (inode_of geo volume ino bytes) ≡ true
   sound_alone core judged needs =
       let none : needs_target_block (core_of geo bytes) ≡ false = subst (λ (c : Core). needs_target_block c ≡ false) judged.is needs in
-      on_disk true (by_target judged.passes ∙ no_need (needs_target_block (core_of geo bytes)) _ none)
+      by_target judged.passes ∙ no_need (needs_target_block (core_of geo bytes)) _ none
 
   target_of : (core : Core) → IsJudgedCore geo ino bytes core → needs_target_block core ≡ true → is_sound_inode geo (inode_of geo volume ino bytes) ≡ is_target_block geo ino core.size (block_at_place volume geo (target_extent geo core bytes))
   target_of core judged needs =
@@ -137,22 +132,22 @@ module _ (geo : Geometry) (volume : ℕ → List ℕ) (ino : ℕ) (bytes : List 
 
   -- the target has no block
   pub without_target : (core : Core) → IsJudgedCore geo ino bytes core → needs_target_block core ≡ true → HasNoPlace geo (target_extent geo core bytes)
-      → (ino ≡ (inode_seen geo volume ino).ino) × (is_sound_inode geo (inode_seen geo volume ino) ≡ false)
-  without_target core judged needs none = (named, on_disk false (target_of core judged needs ∙ no_target geo volume ino core.size (target_extent geo core bytes) none))
+      → (ino ≡ (inode_of geo volume ino bytes).ino) × (is_sound_inode geo (inode_of geo volume ino bytes) ≡ false)
+  without_target core judged needs none =
+      (same_ino geo volume ino bytes, target_of core judged needs ∙ no_target geo volume ino core.size (target_extent geo core bytes) none)
 
   with_target : (core : Core) (at : ℕ) (block : List ℕ) → IsJudgedCore geo ino bytes core → needs_target_block core ≡ true → IsPlace geo (target_extent geo core bytes) at → block ≡ volume at
-      → is_sound_inode geo (inode_seen geo volume ino) ≡ spells_target_block geo ino core.size at block
+      → is_sound_inode geo (inode_of geo volume ino bytes) ≡ spells_target_block geo ino core.size at block
   with_target core at block judged needs place held =
-      on_disk (spells_target_block geo ino core.size at block)
-      (target_of core judged needs ∙ some_target geo volume ino core.size at (target_extent geo core bytes) place ∙ ap (λ (l : List ℕ). spells_target_block geo ino core.size at l) (sym held))
+      target_of core judged needs ∙ some_target geo volume ino core.size at (target_extent geo core bytes) place ∙ ap (λ (l : List ℕ). spells_target_block geo ino core.size at l) (sym held)
 
   -- it has one, which is right or isn't
   pub wrong_target : (core : Core) (at : ℕ) (block : List ℕ) → IsJudgedCore geo ino bytes core → needs_target_block core ≡ true → IsPlace geo (target_extent geo core bytes) at → block ≡ volume at
-      → spells_target_block geo ino core.size at block ≡ false → (ino ≡ (inode_seen geo volume ino).ino) × (is_sound_inode geo (inode_seen geo volume ino) ≡ false)
-  wrong_target core at block judged needs place held wrong = (named, with_target core at block judged needs place held ∙ wrong)
+      → spells_target_block geo ino core.size at block ≡ false → (ino ≡ (inode_of geo volume ino bytes).ino) × (is_sound_inode geo (inode_of geo volume ino bytes) ≡ false)
+  wrong_target core at block judged needs place held wrong = (same_ino geo volume ino bytes, with_target core at block judged needs place held ∙ wrong)
 
   pub right_target : (core : Core) (at : ℕ) (block : List ℕ) → IsJudgedCore geo ino bytes core → needs_target_block core ≡ true → IsPlace geo (target_extent geo core bytes) at → block ≡ volume at
-      → spells_target_block geo ino core.size at block ≡ true → is_sound_inode geo (inode_seen geo volume ino) ≡ true
+      → spells_target_block geo ino core.size at block ≡ true → is_sound_inode geo (inode_of geo volume ino bytes) ≡ true
   right_target core at block judged needs place held right = with_target core at block judged needs place held ∙ right
 
 -- the data fork of an inode that is spelt holds what it has to

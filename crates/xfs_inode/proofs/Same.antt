@@ -46,7 +46,7 @@ same_fork geo f volume other agree =
     same_map extent_claims volume other (extent_seen volume geo) (extent_seen other geo) (same_extent geo volume other) es (agree_right front rest volume other agree) in
     ap (λ (l : List (List Sight)). fork_with other geo f l) one ∙ ap (λ (l : List SeenExtent). record { levels = levels; extents = l }) two
 
-same_inode_of : (geo : Geometry) (ino : ℕ) (bytes : List ℕ) (volume other : ℕ → List ℕ) → AgreeOn (inode_claims (inode_of geo volume ino bytes)) volume other → inode_of geo other ino bytes ≡ inode_of geo volume ino bytes
+pub same_inode_of : (geo : Geometry) (ino : ℕ) (bytes : List ℕ) (volume other : ℕ → List ℕ) → AgreeOn (inode_claims (inode_of geo volume ino bytes)) volume other → inode_of geo other ino bytes ≡ inode_of geo volume ino bytes
 unfolding inode_of
 same_inode_of geo ino bytes volume other agree =
     let a : SeenFork = fork_seen volume geo (shown_data geo ino bytes) in

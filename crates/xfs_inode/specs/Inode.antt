@@ -14,7 +14,7 @@ use Rattle.xfs_super.specs.declared.reason.Reason.{Reason}
 use Rattle.xfs_super.specs.declared.reason.Reason.TheVariants as why
 use Rattle.xfs_inode.specs.declared.core_fields.Core.{Core}
 use Rattle.xfs_inode.specs.Core.{core_of, is_directory, is_link}
-use Rattle.xfs_inode.specs.Seen.{FileBlock, SeenInode, spells_inode, inode_seen, first_file_block}
+use Rattle.xfs_inode.specs.Seen.{FileBlock, SeenInode, spells_inode, inode_bytes, inode_of, inode_seen, first_file_block}
 
 -- a link whose target doesn't stand in the inode has a block for it
 abbrev pub needs_target_block : Core → Bool
@@ -60,11 +60,22 @@ HasInodeFault geo i check.Memory = ⊥
 abbrev pub front_inode : Super → List ℕ → List ℕ
 front_inode geo buffer = take geo.inodesize buffer
 
+-- an inode whose bytes are those
+abbrev pub inode_as : Super → ℕ → List ℕ → List ℕ → SeenInode
+inode_as geo ino bytes image = inode_of (geometry_of geo) (block image) ino bytes
+
+abbrev pub IsSoundAs : Super → ℕ → List ℕ → List ℕ → Type 0
+IsSoundAs geo ino bytes image = is_sound_inode (geometry_of geo) (inode_as geo ino bytes image) ≡ true
+
+abbrev pub HasInodeFaultAs : Super → ℕ → List ℕ → List ℕ → CheckFault → Type 0
+HasInodeFaultAs geo ino bytes image = HasInodeFault (geometry_of geo) (inode_as geo ino bytes image)
+
+-- an inode as it stands in its block
 abbrev pub inode_on : Super → ℕ → List ℕ → SeenInode
 inode_on geo ino image = inode_seen (geometry_of geo) (block image) ino
 
 abbrev pub IsSoundOn : Super → ℕ → List ℕ → Type 0
-IsSoundOn geo ino image = is_sound_inode (geometry_of geo) (inode_on geo ino image) ≡ true
+IsSoundOn geo ino image = IsSoundAs geo ino (inode_bytes (geometry_of geo) (block image) ino) image
 
 abbrev pub HasInodeFaultOn : Super → ℕ → List ℕ → CheckFault → Type 0
-HasInodeFaultOn geo ino image = HasInodeFault (geometry_of geo) (inode_on geo ino image)
+HasInodeFaultOn geo ino image = HasInodeFaultAs geo ino (inode_bytes (geometry_of geo) (block image) ino) image

@@ -3,6 +3,7 @@ pub mod Extents
 pub mod Content
 pub mod Seen
 pub mod Inode
+pub mod TreeFaults
 pub mod ForkReading
 pub mod Chunks
 pub mod Laws

@@ -9,7 +9,7 @@ use xfs_super::Super;
 use xfs_tree::{Chunk, Record, SparseChunk};
 
 /// Whether inode `i` of the 64 of a chunk isn't there.
-pub(crate) fn is_hole(chunk: &SparseChunk, i: u32) -> bool
+pub fn is_hole(chunk: &SparseChunk, i: u32) -> bool
     requires { i < 64 }
     ensures { result ≡ is_hole chunk.now i }
 {
@@ -54,7 +54,7 @@ pub(crate) fn full_chunk(chunk: &Chunk) -> SparseChunk
 }
 
 /// How many inodes a block has.
-pub(crate) fn inodes_in_block(geo: &Super) -> u32
+pub fn inodes_in_block(geo: &Super) -> u32
     ensures inodes { result ≡ 2 ^ geo.now.inopblog }
     ensures some { 1 ≤ result }
     ensures most { result ≤ 8 }
@@ -111,7 +111,7 @@ pub(crate) fn first_unsound(geo: &Super, group: u32, chunks: &[SparseChunk]) -> 
 }
 
 /// Block `j` of a sound chunk, by its number in the volume.
-pub(crate) fn chunk_block(geo: &Super, group: u32, chunk: &SparseChunk, j: u32) -> u64
+pub fn chunk_block(geo: &Super, group: u32, chunk: &SparseChunk, j: u32) -> u64
     requires group { group < geo.now.agcount }
     requires sound { IsSoundChunk (geometry_of geo.now) group chunk.now }
     requires j { j < chunk_len (geometry_of geo.now) }

@@ -1,7 +1,8 @@
 //! Claims on the blocks of extents.
 ghost use Rattle.std.specs.Prelude.{◌≡◌, ℕ, IsTrue, IfErr, OnOk};
 ghost use Rattle.std.specs.List.{All};
-ghost use Rattle.xfs_inode.specs.inside.Telling.{told_of_tree, extents_blocks};
+ghost use Rattle.xfs_inode.specs.inside.Telling.{extents_blocks};
+ghost use Rattle.xfs_inode.specs.TreeFaults.{told_of_tree};
 ghost use Rattle.xfs_super.specs.Super.{geometry_of};
 ghost use Rattle.xfs_tree.specs.Marks.{marked, AreClaimed, AdmitsVolume, IsClaimFault};
 ghost use Rattle.xfs_tree.specs.Records.{by_file};
@@ -31,7 +32,7 @@ pub(crate) fn claim_extents<M: Mark>(
 }
 
 /// A fault of a tree, as a check names it.
-pub(crate) fn told(geo: &Super, fault: TreeFault) -> CheckFault
+pub fn told(geo: &Super, fault: TreeFault) -> CheckFault
     ensures { result ≡ told_of_tree geo.now.agblocks fault }
 {
     match fault {

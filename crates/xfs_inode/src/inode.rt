@@ -3,7 +3,7 @@ ghost use Rattle.std.specs.Prelude.{◌≡◌, ◌*◌, ◌<◌, ◌≤◌, leng
 ghost use Rattle.block_claims.specs.Agreement.{block};
 ghost use Rattle.disk_base.specs.Faults.{Rose, HasCause};
 ghost use Rattle.xfs_inode.specs.Core.{core_of, fork_of, fork_holds};
-ghost use Rattle.xfs_inode.specs.Inode.{front_inode, IsSoundOn, HasInodeFaultOn};
+ghost use Rattle.xfs_inode.specs.Inode.{front_inode, IsSoundAs, HasInodeFaultAs, IsSoundOn, HasInodeFaultOn};
 ghost use Rattle.xfs_inode.specs.Seen.{inode_block, inode_bytes, holds_forks, spells_inode};
 ghost use Rattle.xfs_inode.specs.inside.Judging.{is_judged, IsJudgedCore};
 ghost use Rattle.xfs_super.specs.Super.{geometry_of};
@@ -82,14 +82,53 @@ fn judged_core(geo: &Super, ino: u64, bytes: &[u8]) -> Option<Core>
     Some(core)
 }
 
-/// An inode, which stands in a block of the volume: its core is answered, and its bytes stand in front of `out`
-/// then. Where it is a link whose target has a block of its own, that block is read, too. It takes no memory.
+/// The core of that inode of the volume, whose bytes stand at the front of `bytes`, as they were read with the block
+/// that it stands in. Where it is a link whose target has a block of its own, that block is read. It takes no memory.
 ///
 /// # Errors
 ///
 /// `Bad` with `Inode` where the bytes don't spell that inode, by magic, version, checksum, number, identity, kind of
 /// file, format or forks, where a link is too long or the block of its target isn't one, or where the root inode is
-/// no directory. `Device` where a read failed. Then what `out` holds is open.
+/// no directory. `Device` where a read failed.
+pub fn inode_in<B: Blocks>(
+    disk: &mut B,
+    geo: &Super,
+    ino: u64,
+    bytes: &[u8; 2048],
+) -> Result<Core, CheckFault>
+    requires volume { 8 * geo.now.dblocks ≤ B.size disk.old }
+    ensures read { B.only_read disk.old disk.new }
+    ensures core { IfOk result (λ core. core ≡ core_of (geometry_of geo.now) (front_inode geo.now bytes.now)) }
+    ensures sound { IsTrue B.tells → OnOk result
+        (IsSoundAs geo.now ino (front_inode geo.now bytes.now) (B.image disk.old)) }
+    ensures fault { IsTrue B.tells → IfErr result
+        (HasInodeFaultAs geo.now ino (front_inode geo.now bytes.now) (B.image disk.old)) }
+    ensures device { IsErrOf result CheckFault.Device → Rose (B.faults disk.old) (B.faults disk.new) }
+{
+    let inode = &bytes[..geo.inodesize as usize];
+    let Some(core) = judged_core(geo, ino, inode) else {
+        return Err(CheckFault::Bad(Reason::Inode { ino }));
+    };
+    if !core.needs_target_block() {
+        return Ok(core);
+    }
+    let Some(at) = target_place(geo, &core, inode) else {
+        return Err(CheckFault::Bad(Reason::Inode { ino }));
+    };
+    let mut target = [0; BLOCK];
+    read_block(disk, geo, at, &mut target)?;
+    if !spells_target_block(geo, ino, core.size, at, &target) {
+        return Err(CheckFault::Bad(Reason::Inode { ino }));
+    }
+    Ok(core)
+}
+
+/// An inode, which stands in a block of the volume: its core is answered, and its bytes stand in front of `out`
+/// then. Where it is a link whose target has a block of its own, that block is read, too. It takes no memory.
+///
+/// # Errors
+///
+/// `Bad` and `Device` as [`inode_in`] has them. Then what `out` holds is open.
 pub fn read_inode<B: Blocks>(
     disk: &mut B,
     geo: &Super,
@@ -107,20 +146,5 @@ pub fn read_inode<B: Blocks>(
     ensures device { IsErrOf result CheckFault.Device → Rose (B.faults disk.old) (B.faults disk.new) }
 {
     read_bytes(disk, geo, ino, out)?;
-    let bytes = &out[..geo.inodesize as usize];
-    let Some(core) = judged_core(geo, ino, bytes) else {
-        return Err(CheckFault::Bad(Reason::Inode { ino }));
-    };
-    if !core.needs_target_block() {
-        return Ok(core);
-    }
-    let Some(at) = target_place(geo, &core, bytes) else {
-        return Err(CheckFault::Bad(Reason::Inode { ino }));
-    };
-    let mut target = [0; BLOCK];
-    read_block(disk, geo, at, &mut target)?;
-    if !spells_target_block(geo, ino, core.size, at, &target) {
-        return Err(CheckFault::Bad(Reason::Inode { ino }));
-    }
-    Ok(core)
+    inode_in(disk, geo, ino, out)
 }

@@ -8,7 +8,8 @@ use Rattle.xfs_inode.specs.Extents.{AreSoundExtents}
 use Rattle.xfs_inode.specs.ForkReading.{fork_on, IsSoundForkOn, HasFaultInForkOn, ClaimedByFork, SpeaksAgainstFork}
 use Rattle.xfs_inode.specs.Inode.{front_inode}
 use Rattle.xfs_inode.specs.Seen.{extents_seen}
-use Rattle.xfs_inode.specs.inside.Telling.{told_of_tree, fork_as_data}
+use Rattle.xfs_inode.specs.inside.Telling.{fork_as_data}
+use Rattle.xfs_inode.specs.TreeFaults.{told_of_tree}
 use Rattle.xfs_inode.proofs.Faults.{read_refused, extents_refused, claims_refused, all_claimed, fork_is_sound, ino_of_fork}
 use Rattle.xfs_inode.proofs.Seeing.{seen_extents}
 use Rattle.xfs_inode.proofs.extents.extents_of.Goals as goal
