@@ -1,0 +1,4 @@
+pub mod Sectors
+pub mod Finds
+pub mod Wholes
+pub mod Excluded
