@@ -1,0 +1,4 @@
+pub mod Directory
+pub mod File
+pub mod Laws
+pub mod inside
