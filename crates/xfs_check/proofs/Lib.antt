@@ -1,0 +1,14 @@
+pub mod Excluded
+pub mod Frames
+pub mod Shares
+pub mod Marking
+pub mod Heads
+pub mod Steps
+pub mod Turning
+pub mod Listed
+pub mod Parting
+pub mod Causes
+pub mod Judged
+pub mod Rows
+pub mod Whole
+pub mod Ended

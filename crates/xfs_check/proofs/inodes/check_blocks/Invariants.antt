@@ -1,0 +1,21 @@
+use Rattle.std.proofs.Common.{◌≡◌, ℕ, IsTrue}
+use Rattle.block_claims.specs.Agreement.{block}
+use Rattle.xfs_check.proofs.Rows.{first_inodes}
+use Rattle.xfs_check.specs.Valid.{has_root}
+use Rattle.xfs_check.specs.inside.Reading.{inodes_of_chunk_block}
+use Rattle.xfs_check.specs.inside.Steps.{AreChecked}
+use Rattle.xfs_inode.specs.Chunks.{chunk_len}
+use Rattle.xfs_super.specs.Super.{geometry_of}
+use Rattle.xfs_tree.specs.Marks.{marked}
+use Rattle.xfs_check.proofs.inodes.check_blocks.Given as goal
+
+abbrev pub invariant-loop-number : goal.invariant-loop-number
+invariant-loop-number g l = record {
+  read : g.B.Blocks.only_read l.initial.disk l.disk;
+  checked : IsTrue g.B.Blocks.tells → AreChecked (geometry_of l.geo)
+      (first_inodes (inodes_of_chunk_block (geometry_of l.geo) (block (g.B.Blocks.image l.initial.disk)) l.group l.chunk) (chunk_len (geometry_of l.geo)) (geometry_of l.geo) l.number)
+      (marked l.geo.agblocks (g.M.Mark.claimed l.initial.marks)) (marked l.geo.agblocks (g.M.Mark.claimed l.marks));
+  root : IsTrue g.B.Blocks.tells → l.root ≡ has_root (geometry_of l.geo)
+      (first_inodes (inodes_of_chunk_block (geometry_of l.geo) (block (g.B.Blocks.image l.initial.disk)) l.group l.chunk) (chunk_len (geometry_of l.geo)) (geometry_of l.geo) l.number);
+  admits : (h b : ℕ) → g.M.Mark.admits l.marks h b ≡ g.M.Mark.admits l.initial.marks h b;
+}

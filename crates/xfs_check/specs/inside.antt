@@ -1,0 +1,5 @@
+pub mod Claiming
+pub mod Steps
+pub mod Reading
+pub mod Grouping
+pub mod Behind
