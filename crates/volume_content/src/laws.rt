@@ -1,0 +1,12 @@
+//! What holds of every content.
+ghost use Rattle.volume_content.specs.Laws.{FreeOfContentCarriesNothing, OneKind};
+
+/// The law that a volume whose blocks that carry nothing hold something else has the same content. A call does nothing.
+pub fn free_of_content_carries_nothing()
+    ensures { FreeOfContentCarriesNothing }
+{}
+
+/// The law that a volume has one content, but for the reason that is named of several. A call does nothing.
+pub fn one_kind()
+    ensures { OneKind }
+{}
