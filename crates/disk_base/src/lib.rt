@@ -32,6 +32,3 @@ pub use memory_sink::MemSink;
 pub use output::Sink;
 pub use ram_disk::RamDisk;
 pub use run::Run;
-
-#[cfg(test)]
-mod tests;

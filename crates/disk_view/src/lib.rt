@@ -21,6 +21,3 @@ mod view;
 pub use apart::are_apart;
 pub use laws::{free_blocks_stay_free, joins_are_of_the_disk};
 pub use view::View;
-
-#[cfg(test)]
-mod tests;

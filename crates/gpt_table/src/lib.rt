@@ -22,6 +22,3 @@ pub use fault::GptFault;
 pub use gpt::Gpt;
 pub use reading::{one_table, read_gpt};
 pub use writing::{gpt_entries, gpt_header, protective_sector};
-
-#[cfg(test)]
-mod tests;

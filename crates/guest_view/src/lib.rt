@@ -22,6 +22,3 @@ pub use guest::{Guest, GuestPart};
 pub use inspecting::{inspect, one_guest};
 pub use partition::Partition;
 pub use table::Table;
-
-#[cfg(test)]
-mod tests;

@@ -31,8 +31,3 @@ pub use part::{Fate, Kind, Part, Placed, Role};
 pub use planned::Planned;
 pub use planner::{one_plan, plan};
 pub use wish::{Layout, Size, What, Wish};
-
-#[cfg(test)]
-mod tests;
-#[cfg(test)]
-mod wider_tests;

@@ -31,6 +31,3 @@ pub use fault::GroupFault;
 pub use group::Group;
 pub use reading::group_of;
 pub use types::Member;
-
-#[cfg(test)]
-mod tests;

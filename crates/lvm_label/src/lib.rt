@@ -18,6 +18,3 @@ pub use fault::RingFault;
 pub use label::{Label, read_label};
 pub use laws::{one_label, ring_or_fault};
 pub use ring::{Ring, read_ring};
-
-#[cfg(test)]
-mod tests;

@@ -26,6 +26,3 @@ pub use laws::{one_fault, one_tree, tree_or_fault};
 pub use reader::read_text;
 pub use tree::{Item, Scalar, Tree, Value};
 pub use writer::write_text;
-
-#[cfg(test)]
-mod tests;

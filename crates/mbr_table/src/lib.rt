@@ -22,6 +22,3 @@ pub use mbr::{Mbr, one_fault, one_table, read_mbr};
 pub use sector::{SectorTable, is_protective, judge_sector};
 pub use slot::{Logical, Slot};
 pub use writing::{chain_reads_back, ebr_sector, mbr_sector, table_reads_back};
-
-#[cfg(test)]
-mod tests;

@@ -24,6 +24,3 @@ pub use lines::summary;
 pub use planning::prepare;
 pub use ready::Ready;
 pub use source::{SourceDisk, read_source};
-
-#[cfg(test)]
-mod tests;

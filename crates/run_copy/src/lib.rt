@@ -12,6 +12,3 @@ mod transfer;
 
 pub use copying::{BUFFER, copy_all, copy_run};
 pub use transfer::Transfer;
-
-#[cfg(test)]
-mod tests;

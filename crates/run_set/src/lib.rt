@@ -143,6 +143,3 @@ fn total_of(runs: &[Run]) -> u64
 {
     runs.iter().map(|run| run.count).sum()
 }
-
-#[cfg(test)]
-mod tests;

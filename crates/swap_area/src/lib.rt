@@ -18,6 +18,3 @@ mod laws;
 
 pub use header::{PAGE, Swap, has_signature, swap_of, swap_sector};
 pub use laws::{free_pages_carry_nothing, last_page_alone};
-
-#[cfg(test)]
-mod tests;

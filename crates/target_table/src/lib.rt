@@ -18,8 +18,3 @@ mod target;
 
 pub use table::table_for;
 pub use table_sectors::TableSectors;
-
-#[cfg(test)]
-mod gpt_tests;
-#[cfg(test)]
-mod mbr_tests;

@@ -15,6 +15,3 @@ pub use carrying::carry_out;
 pub use run_copy::Transfer;
 pub use sector_write::SectorWrite;
 pub use writing::Writing;
-
-#[cfg(test)]
-mod tests;

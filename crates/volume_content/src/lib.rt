@@ -21,6 +21,3 @@ pub use content::{Content, Why};
 pub use fault::ContentFault;
 pub use laws::{free_of_content_carries_nothing, one_kind};
 pub use reading::content_of;
-
-#[cfg(test)]
-mod tests;

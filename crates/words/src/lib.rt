@@ -23,6 +23,3 @@ mod wishes;
 pub use job::{Job, LvWish, ResizeJob, SparsifyJob, Unknown, VolumeName, VolumeWish};
 pub use reader::read_words;
 pub use usage::Usage;
-
-#[cfg(test)]
-mod tests;

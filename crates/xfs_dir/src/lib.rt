@@ -24,6 +24,3 @@ pub use block::{BlockEntries, block_entries};
 pub use entry::{DirEntry, EntryFault};
 pub use laws::{blocks_are_exact, short_forms_are_exact};
 pub use short::{ShortEntries, short_entries};
-
-#[cfg(test)]
-mod tests;

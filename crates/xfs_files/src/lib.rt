@@ -16,6 +16,3 @@ mod short;
 
 pub use directory::judge_directory;
 pub use laws::no_directory_reason;
-
-#[cfg(test)]
-mod tests;

@@ -16,6 +16,3 @@ mod unmount;
 pub use judging::judge_log;
 pub use laws::{no_log_reason, one_newest_record};
 pub use place::log_first;
-
-#[cfg(test)]
-mod tests;

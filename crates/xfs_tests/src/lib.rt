@@ -1,23 +1,18 @@
-//! Tests of the crates that read XFS volumes, and of the check of a whole one, over doubles and over what other
-//! programs wrote.
+//! Tests of the crates that read XFS volumes, over doubles and over what other programs wrote.
 //!
 //! It promises nothing, and nothing stands on it. It stands on the crates that it tests, and on disk_fixtures.
 #![tactic(auto)]
 
-#[cfg(test)]
-mod check_change;
-#[cfg(test)]
-mod check_claims;
-#[cfg(test)]
-mod check_reasons;
-#[cfg(test)]
-mod check_sound;
 #[cfg(test)]
 mod chunks;
 #[cfg(test)]
 mod contents;
 #[cfg(test)]
 mod directories;
+#[cfg(test)]
+mod directory_files;
+#[cfg(test)]
+mod entries;
 #[cfg(test)]
 mod forks;
 #[cfg(test)]

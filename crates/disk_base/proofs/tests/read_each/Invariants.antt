@@ -1,4 +1,0 @@
-use Rattle.disk_base.proofs.tests.read_each.Given as goal
-
-abbrev pub invariant-loop-at : goal.invariant-loop-at
-invariant-loop-at g l = g.B.Blocks.only_read l.initial.disk l.disk

@@ -1,5 +1,0 @@
-use Rattle.std.proofs.Common.{◌≡◌, length}
-use Rattle.guest_view.proofs.tests.disk_with.Given as goal
-
-abbrev pub invariant-loop-sector : goal.invariant-loop-sector
-invariant-loop-sector l = length l.image.items ≡ 204800
