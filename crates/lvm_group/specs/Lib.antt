@@ -6,4 +6,5 @@ pub mod Order
 pub mod Volumes
 pub mod Free
 pub mod Answer
+pub mod Text
 pub mod inside

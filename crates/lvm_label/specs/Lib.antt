@@ -1,3 +1,4 @@
 pub mod Label
 pub mod Ring
+pub mod Text
 pub mod inside
