@@ -44,19 +44,19 @@ fn is_unread(
     row: usize,
 ) -> Result<(), Fail> {
     match content_of(alloc, disk)? {
-        Content::Unread(why) => assert_eq!(rt; why, want, "in row {row}"),
-        Content::Xfs(_) | Content::Swap(_) => assert!(rt; false, "row {row} is read"),
+        Inner::Unread(why) => assert_eq!(rt; why, want, "in row {row}"),
+        Inner::Xfs(_) | Inner::Swap(_) => assert!(rt; false, "row {row} is read"),
     }
     Ok(())
 }
 
 fn is_whole(rt: &impl Abort, alloc: Global, built: Built) -> Result<(), Fail> {
     match content_of(alloc, &mut built.into_disk(None))? {
-        Content::Xfs(volume) => {
+        Inner::Xfs(volume) => {
             assert_eq!(rt; volume.geo().dblocks, 256);
             assert_eq!(rt; volume.geo().rootino, 128);
         }
-        Content::Swap(_) | Content::Unread(_) => assert!(rt; false, "no XFS"),
+        Inner::Swap(_) | Inner::Unread(_) => assert!(rt; false, "no XFS"),
     }
     Ok(())
 }
@@ -90,8 +90,8 @@ fn names_the_reason_against_an_xfs_volume(rt: HostRuntime) -> Result<(), Fail> {
 fn reads_a_swap_area(rt: HostRuntime) -> Result<(), Fail> {
     let alloc = rt.alloc();
     match content_of(alloc, &mut disk_with(alloc, &swap_page(), 256, Some(2))?)? {
-        Content::Swap(swap) => assert_eq!(rt; swap.last_page, 31),
-        Content::Xfs(_) | Content::Unread(_) => assert!(rt; false, "no swap area"),
+        Inner::Swap(swap) => assert_eq!(rt; swap.last_page, 31),
+        Inner::Xfs(_) | Inner::Unread(_) => assert!(rt; false, "no swap area"),
     }
     Ok(())
 }

@@ -5,7 +5,7 @@ use Rattle.block_claims.specs.Agreement.{block}
 use Rattle.disk_base.proofs.Fieldwork.{big_same}
 use Rattle.disk_base.specs.Fields.{big_at}
 use Rattle.disk_base.specs.Image.{bytes_at}
-use Rattle.volume_content.specs.Content.{has_xfs_magic}
+use Rattle.volume_content.specs.Inner.{has_xfs_magic}
 use Rattle.xfs_check.proofs.Frames.{seen_superblock}
 use Rattle.xfs_check.specs.Frame.{volume_on}
 use Rattle.xfs_check.specs.Valid.{IsValidVolume}

@@ -4,8 +4,8 @@ use Rattle.std.specs.Prelude.{◌≡◌, ℕ, ◌+◌, ◌*◌, ◌<◌, ◌≤�
 use Rattle.block_claims.specs.Agreement.{block}
 use Rattle.disk_base.specs.Fields.{big_at}
 use Rattle.swap_area.specs.Header.{HasSwapSignature, IsSwap, swap_free, swap_in}
-use Rattle.volume_content.specs.declared.content.Content.{Content}
-use Rattle.volume_content.specs.declared.content.Content.TheVariants.{Xfs, Swap, Unread}
+use Rattle.volume_content.specs.declared.content.Inner.{Inner}
+use Rattle.volume_content.specs.declared.content.Inner.TheVariants.{Xfs, Swap, Unread}
 use Rattle.volume_content.specs.declared.content.Why.{Why}
 use Rattle.volume_content.specs.declared.content.Why.TheVariants as why
 use Rattle.xfs_check.specs.Frame.{volume_on}
@@ -17,7 +17,8 @@ use Rattle.xfs_check.specs.Volume.{volume_space}
 abbrev pub has_xfs_magic : List ℕ → Bool
 has_xfs_magic image = big_at 4 image 0 == 0x58465342
 
--- a volume of that many sectors isn't read, and why: of several reasons against an XFS volume any
+-- a volume of that many sectors isn't read, and why: of several reasons against an XFS volume any. That it is a physical
+-- volume of LVM2 is no cause for one that stands alone
 abbrev pub IsUnread : ℕ → List ℕ → Why → Type 0
 IsUnread sectors image why.Other =
     (has_xfs_magic image ≡ false) × ((sectors < 8) ⊎ (HasSwapSignature (block image 0) → ⊥))
@@ -26,24 +27,28 @@ IsUnread sectors image (why.Xfs reason) =
 IsUnread sectors image why.Swap =
     (has_xfs_magic image ≡ false) × (8 ≤ sectors) × HasSwapSignature (block image 0)
     × (IsSwap (block image 0) sectors → ⊥)
+IsUnread sectors image why.NoGroup = ⊥
+IsUnread sectors image (why.Ring fault) = ⊥
+IsUnread sectors image (why.Text fault) = ⊥
+IsUnread sectors image (why.Group fault) = ⊥
 
 -- what it holds
-abbrev pub IsContent : ℕ → List ℕ → Content → Type 0
-IsContent sectors image (Xfs volume) =
+abbrev pub IsInner : ℕ → List ℕ → Inner → Type 0
+IsInner sectors image (Xfs volume) =
     (has_xfs_magic image ≡ true) × IsValidVolume sectors (volume_on image) × (volume ≡ volume_space (volume_on image))
-IsContent sectors image (Swap swap) =
+IsInner sectors image (Swap swap) =
     (has_xfs_magic image ≡ false) × (8 ≤ sectors) × HasSwapSignature (block image 0) × IsSwap (block image 0) sectors
     × (swap ≡ swap_in (block image 0))
-IsContent sectors image (Unread cause) = IsUnread sectors image cause
+IsInner sectors image (Unread cause) = IsUnread sectors image cause
 
 -- the blocks of 4096 bytes that carry nothing
-abbrev pub content_free : List ℕ → Content → List ℕ
-content_free image (Xfs volume) = volume_free (volume_on image)
-content_free image (Swap swap) = swap_free swap
-content_free image (Unread cause) = []
+abbrev pub inner_free : List ℕ → Inner → List ℕ
+inner_free image (Xfs volume) = volume_free (volume_on image)
+inner_free image (Swap swap) = swap_free swap
+inner_free image (Unread cause) = []
 
 -- its blocks or pages, as many as it says that it has, lie in so many sectors
-abbrev pub ContentFits : ℕ → Content → Type 0
-ContentFits sectors (Xfs volume) = 8 * volume.geometry.dblocks ≤ sectors
-ContentFits sectors (Swap swap) = (1 ≤ swap.last_page) × ((swap.last_page + 1) * 8 ≤ sectors)
-ContentFits sectors (Unread cause) = Unit {0}
+abbrev pub InnerFits : ℕ → Inner → Type 0
+InnerFits sectors (Xfs volume) = 8 * volume.geometry.dblocks ≤ sectors
+InnerFits sectors (Swap swap) = (1 ≤ swap.last_page) × ((swap.last_page + 1) * 8 ≤ sectors)
+InnerFits sectors (Unread cause) = Unit {0}

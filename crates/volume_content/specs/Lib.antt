@@ -1,3 +1,3 @@
-pub mod Content
+pub mod Inner
 pub mod Laws
 pub mod Text
