@@ -12,6 +12,8 @@ mod check_reasons;
 #[cfg(test)]
 mod check_sound;
 #[cfg(test)]
+mod large;
+#[cfg(test)]
 mod logs;
 #[cfg(test)]
 mod volume_contents;

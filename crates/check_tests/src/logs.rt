@@ -11,7 +11,7 @@ const DIRTY: Option<CheckFault> = Some(CheckFault::Bad(Reason::DirtyLog));
 
 /// What is put into a sector of the log.
 #[derive(Clone, Copy, Debug)]
-enum Sector {
+pub(crate) enum Sector {
     /// The header of a record, which was given `size` bytes of room.
     Header {
         cycle: u32,
@@ -28,7 +28,7 @@ enum Sector {
 }
 
 /// The header of a record of one operation, and of so many bytes.
-fn header(cycle: u32, length: u32) -> Sector {
+pub(crate) fn header(cycle: u32, length: u32) -> Sector {
     Sector::Header {
         cycle,
         version: 2,
@@ -39,12 +39,12 @@ fn header(cycle: u32, length: u32) -> Sector {
 }
 
 /// The sector of an unmount.
-fn unmount(cycle: u32) -> Sector {
+pub(crate) fn unmount(cycle: u32) -> Sector {
     Sector::Data { cycle, flags: 0x20 }
 }
 
 impl Sector {
-    fn bytes(self) -> [u8; 512] {
+    pub(crate) fn bytes(self) -> [u8; 512] {
         let mut out = [0; 512];
         match self {
             Sector::Header {
