@@ -67,7 +67,7 @@ const PLACES: [(u64, u64, &str); 7] = [
     (4096, 8192, "Header"),
 ];
 
-fn put(image: &mut [u8; 12288], at: usize, bytes: &[u8])
+pub(crate) fn put(image: &mut [u8; 12288], at: usize, bytes: &[u8])
     requires { at + length bytes.now ≤ 12288 }
 {
     image[at..at + bytes.len()].copy_from_slice(bytes);
@@ -111,7 +111,7 @@ fn put_areas(image: &mut [u8; 12288]) {
 }
 
 /// The volume with that byte changed, and the two checksums made right if they are to be.
-fn image_with(at: usize, byte: u8, sealed: bool) -> [u8; 12288] {
+pub(crate) fn image_with(at: usize, byte: u8, sealed: bool) -> [u8; 12288] {
     let mut image = [0; 12288];
     put_label(&mut image);
     put_areas(&mut image);
@@ -127,7 +127,11 @@ fn image_with(at: usize, byte: u8, sealed: bool) -> [u8; 12288] {
     image
 }
 
-fn volume(alloc: Global, image: &[u8; 12288], failing: Option<u64>) -> Result<ByteDisk, Fail>
+pub(crate) fn volume(
+    alloc: Global,
+    image: &[u8; 12288],
+    failing: Option<u64>,
+) -> Result<ByteDisk, Fail>
     ensures { IfOk result (λ disk. disk.sectors ≡ 24) }
 {
     let bytes = Vec::from_slice(alloc, image.as_slice())?;

@@ -9,3 +9,5 @@ mod group_texts;
 mod groups;
 #[cfg(test)]
 mod labels;
+#[cfg(test)]
+mod partitions;
