@@ -2,7 +2,7 @@
 
 use crate::labels::{image_with, put, volume};
 use disk_base::crc32_lvm;
-use partition_content::{Found, find};
+use partition_content::{Found, find, one_find};
 use std::alloc::Global;
 use std::test::Fail;
 use volume_content::{ContentFault, Inner};
@@ -62,6 +62,7 @@ fn changed(by: &Change) -> [u8; 12288] {
 #[test]
 fn a_partition_holds_what_its_areas_hold(rt: HostRuntime) -> Result<(), Fail> {
     let alloc = rt.alloc();
+    one_find();
     let two = format!(in alloc; "2 {TEXT}")?;
     let one = format!(in alloc; "1 {TEXT}")?;
     let rows: [(Change, &str); 11] = [
