@@ -1,5 +1,6 @@
 //! A volume of 4093 blocks in four groups of 1024, the last of which is three blocks short, with an empty root directory
 //! and a log of 4096 sectors; and what the check says of it, by what its log holds.
+ghost use Rattle.std.specs.Prelude.{◌≤◌};
 
 use crate::logs::{Sector, header, unmount};
 use disk_base::put;
@@ -40,17 +41,29 @@ const CHUNK: StoredChunk = StoredChunk {
     free: 0xFFFF_FFFF_FFFF_FFF8,
 };
 
-/// Puts a header of a group with other bytes from byte `at` on, and its right checksum.
-fn put_header(built: &mut Built, header: Header, group: u32, at: usize, bytes: &[u8]) {
-    let (sector, sum) = match header {
+/// In which sector of its group a header stands, and where it holds its checksum.
+fn place_of(header: Header) -> (usize, usize)
+    ensures { result.0 ≤ 3 }
+{
+    match header {
         Header::Superblock => (0, 224),
         Header::Agf => (1, 216),
         Header::Agi => (2, 312),
         Header::Agfl => (3, 32),
-    };
+    }
+}
+
+/// The first sector.
+fn first_sector(bytes: &[u8; 4096]) -> &[u8] {
+    &bytes[..512]
+}
+
+/// Puts a header of a group with other bytes from byte `at` on, and its right checksum.
+fn put_header(built: &mut Built, header: Header, group: u32, at: usize, bytes: &[u8]) {
+    let (sector, sum) = place_of(header);
     let from = 512 * (8192 * (group as usize % 4) + sector);
     let whole = SIZES.header(header, group);
-    built.put(from, &whole[..512]);
+    built.put(from, first_sector(&whole));
     built.put(from + at % 512, bytes);
     built.resum(from, 512, sum);
 }
