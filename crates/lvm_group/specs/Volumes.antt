@@ -1,5 +1,5 @@
 -- The sectors of volumes: their segments in order, each with its physical volume and its sectors there.
-use Rattle.std.specs.Prelude.{◌≡◌, ℕ, suc, ◌+◌, ◌*◌, List, [], ◌∷◌, map, slice_get, Option, Some, None, if◌then◌else◌, ◌==◌}
+use Rattle.std.specs.Prelude.{◌≡◌, ℕ, suc, ◌+◌, ◌*◌, max, List, [], ◌∷◌, map, slice_get, Option, Some, None, if◌then◌else◌, ◌==◌}
 use Rattle.lvm_group.specs.declared.types.PhysicalVolume.{PhysicalVolume}
 use Rattle.lvm_group.specs.declared.types.Segment.{Segment}
 use Rattle.lvm_group.specs.declared.types.LogicalVolume.{LogicalVolume}
@@ -11,6 +11,11 @@ use Rattle.lvm_group.specs.Judged.{span_of}
 abbrev pub start_from : ℕ → ℕ → List PhysicalVolume → ℕ
 start_from n m [] = 0
 start_from n m (p ∷ ps) = if n == m then p.start else start_from (suc n) m ps
+
+-- how many sectors a physical volume has by the text: its `dev_size`, or what its extents reach, if that is more
+abbrev pub device_sectors : ℕ → Option PhysicalVolume → ℕ
+device_sectors extent None = 0
+device_sectors extent (Some p) = max p.size (p.start + p.count * extent)
 
 -- extents as sectors: the physical volume, the first sector there, and how many
 abbrev pub run_of_span : List PhysicalVolume → ℕ → Span → ℕ × ℕ × ℕ

@@ -1,10 +1,10 @@
 //! Groups, and what they give.
-ghost use Rattle.std.specs.Prelude.{◌≡◌, ◌<◌, ◌^◌, length};
+ghost use Rattle.std.specs.Prelude.{◌≡◌, ◌<◌, ◌^◌, length, slice_get};
 ghost use Rattle.lvm_group.specs.Judged.{extents_from};
-ghost use Rattle.lvm_group.specs.Volumes.{IsItemAt, names_of};
+ghost use Rattle.lvm_group.specs.Volumes.{IsItemAt, device_sectors, names_of};
 ghost use Rattle.lvm_group.specs.declared.spans.Volume.{Volume};
 
-use crate::spans::{Volume, extent_count};
+use crate::spans::{Volume, device_at, extent_count};
 use crate::types::{LogicalVolume, Member, Spelt};
 use disk_base::List;
 use lvm_text::Tree;
@@ -65,6 +65,15 @@ impl Group {
         ensures { result ≡ extents_from 0 m self.now.spelt.physicals }
     {
         u64::from(extent_count(self.spelt.physicals.items(), m))
+    }
+
+    /// How many sectors physical volume `m` has by the text: its `dev_size`, or what its extents reach, if that is more.
+    /// Real tools leave it smaller than its extents where they made the volume longer.
+    pub fn device_sectors(&self, m: u32) -> u64
+        requires { m < length self.now.members }
+        ensures { result ≡ device_sectors self.now.spelt.extent (slice_get self.now.spelt.physicals m) }
+    {
+        device_at(self.spelt.physicals.items(), self.spelt.extent, m as usize)
     }
 
     /// How many logical volumes it has.

@@ -1,7 +1,7 @@
 //! The extents and sectors of segments.
-ghost use Rattle.std.specs.Prelude.{◌≡◌, ◌++◌, ◌∷◌, [], ℕ, ◌==◌, ◌&&◌, Some, None, OnOk, IfOk, IfSome, if◌then◌else◌, ◌<◌, ◌≤◌, ◌+◌, ◌*◌, length};
+ghost use Rattle.std.specs.Prelude.{◌≡◌, ◌++◌, ◌∷◌, [], ℕ, ◌==◌, ◌&&◌, Some, None, OnOk, IfOk, IfSome, if◌then◌else◌, ◌<◌, ◌≤◌, ◌+◌, ◌*◌, length, max, slice_get};
 ghost use Rattle.lvm_group.specs.Judged.{extents_from, span_at, span_by, span_of, next_span, taken_after, taken_by};
-ghost use Rattle.lvm_group.specs.Volumes.{start_from, run_of_span, runs_in, extents_in, volume_with};
+ghost use Rattle.lvm_group.specs.Volumes.{device_sectors, start_from, run_of_span, runs_in, extents_in, volume_with};
 ghost use Rattle.lvm_group.specs.inside.Laying.{IsNextSegment, IsLaidVolume, AreVolumesLaid};
 
 use crate::span::Span;
@@ -45,6 +45,30 @@ pub(crate) fn extent_start(ps: &[PhysicalVolume], m: u32) -> u32
         n += 1;
     }
     0
+}
+
+// The end of a device, or of its extents, if that is more.
+fn device_end(size: u32, start: u32, count: u32, extent: u32) -> u64
+    ensures { result ≡ max size (start + count * extent) }
+{
+    let reach = u64::from(count) * u64::from(extent);
+    u64::from(size).max(u64::from(start) + reach)
+}
+
+/// How many sectors that physical volume has by the text.
+pub(crate) fn device_at(ps: &[PhysicalVolume], extent: u32, m: usize) -> u64
+    ensures { result ≡ device_sectors extent (slice_get ps.now m) }
+{
+    if m >= ps.len() {
+        return 0;
+    }
+    let PhysicalVolume {
+        size,
+        start,
+        count,
+        ..
+    } = &ps[m];
+    device_end(*size, *start, *count, extent)
 }
 
 fn span_at(member: u32, first: i64, n: u32, count: u32) -> Option<Span>

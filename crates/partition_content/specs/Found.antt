@@ -3,11 +3,11 @@ use Rattle.std.specs.Prelude.{◌≡◌, ◌≢◌, ℕ, ◌<◌, ◌≤◌, ◌
 use Rattle.disk_base.specs.Image.{bytes_at}
 use Rattle.lvm_group.specs.declared.fault.GroupFault.TheVariants.{Members}
 use Rattle.lvm_label.specs.Label.{HaveNoLabel, IsFirstLabel}
-use Rattle.lvm_label.specs.Ring.{HasRingFaultBy, IsRingBy, RingArea}
+use Rattle.lvm_label.specs.Ring.{HasRingFaultBy, IsPlacedBy, IsRingBy, RingArea}
 use Rattle.lvm_label.specs.declared.fault.RingFault.{RingFault}
 use Rattle.lvm_label.specs.declared.fault.RingFault.TheVariants as faults
 use Rattle.lvm_label.specs.declared.label.Label.{Label}
-use Rattle.volume_content.specs.Inner.{IsInner}
+use Rattle.volume_content.specs.Inner.{InnerFits, IsInner}
 use Rattle.volume_content.specs.declared.content.Inner.{Inner}
 use Rattle.volume_content.specs.declared.content.Inner.TheVariants.{Unread}
 use Rattle.volume_content.specs.declared.content.Why.{Why}
@@ -90,3 +90,19 @@ IsFoundIn sectors image (found.Physical physical) =
     HasLabel sectors image (Some physical.label) × HasOneText sectors image physical.label physical
 IsFoundIn sectors image (found.Inner inner) =
     (HasLabel sectors image None × IsInner sectors image inner) ⊎ IsUnreadWith sectors image inner
+
+-- the second area, if there is one, lies in so many sectors
+abbrev pub SecondFits : ℕ → Label → Option RingArea → Type 0
+SecondFits sectors label None = label.areas < 2
+SecondFits sectors label (Some ring) = IsPlacedBy sectors label 1
+
+-- one area or two, which lie in so many sectors
+pub record AreasFit (sectors : ℕ) (physical : Physical) : Type 0 where
+  pub few : HasFewAreas physical.label
+  pub first : IsPlacedBy sectors physical.label 0
+  pub second : SecondFits sectors physical.label physical.second
+
+-- what is found says that it has no more than so many sectors
+abbrev pub FoundFits : ℕ → Found → Type 0
+FoundFits sectors (found.Physical physical) = AreasFit sectors physical
+FoundFits sectors (found.Inner inner) = InnerFits sectors inner

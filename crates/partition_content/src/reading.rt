@@ -1,8 +1,8 @@
 //! Reading what a partition holds.
-ghost use Rattle.std.specs.Prelude.{◌≡◌, ◌^◌, ◌≤◌, None, Some, IsTrue, IfOk, IfErr, IsErrOf};
+ghost use Rattle.std.specs.Prelude.{◌≡◌, ◌^◌, ◌≤◌, None, Some, IsTrue, IfOk, IfErr, IsErrOf, OnOk};
 ghost use Rattle.disk_base.specs.Faults.{Rose};
-ghost use Rattle.lvm_label.specs.Ring.{HasArea, IsRingBy};
-ghost use Rattle.partition_content.specs.Found.{HasLabel, HasOneText, IsFoundIn, IsSecondRing};
+ghost use Rattle.lvm_label.specs.Ring.{HasArea, IsPlacedBy, IsRingBy};
+ghost use Rattle.partition_content.specs.Found.{AreasFit, FoundFits, HasLabel, HasOneText, IsFoundIn, IsSecondRing, SecondFits};
 ghost use Rattle.partition_content.specs.inside.Stops.{IsAreaStop, IsSecondStop, IsStop, KnowsAreas};
 ghost use Rattle.partition_content.specs.declared.found.Stop.TheVariants.{Failed as NotKnown};
 
@@ -39,6 +39,7 @@ fn ring_of<B: Blocks>(alloc: Global, disk: &mut B, label: &Label, area: u32) -> 
     requires few { B.size disk.old ≤ 2 ^ 31 }
     requires has { HasArea label.now area }
     ensures read { B.only_read disk.old disk.new }
+    ensures placed { OnOk result (IsPlacedBy (B.size disk.old) label.now area) }
     ensures ring { IsTrue B.tells → IfOk result (IsRingBy (B.size disk.old) (B.image disk.old) label.now area) }
     ensures stop { IsTrue B.tells → IfErr result (IsAreaStop (B.size disk.old) (B.image disk.old) label.now area) }
     ensures device { IsErrOf result (NotKnown ContentFault.Device) → Rose (B.faults disk.old) (B.faults disk.new) }
@@ -60,6 +61,7 @@ fn second_ring<B: Blocks>(
     requires two { label.now.areas ≤ 2 }
     requires known { KnowsAreas (Some label.now) }
     ensures read { B.only_read disk.old disk.new }
+    ensures fits { IfOk result (SecondFits (B.size disk.old) label.now) }
     ensures ring { IsTrue B.tells
         → IfOk result (IsSecondRing (B.size disk.old) (B.image disk.old) label.now first.now) }
     ensures stop { IsTrue B.tells
@@ -84,6 +86,7 @@ fn physical_of<B: Blocks>(alloc: Global, disk: &mut B, label: Label) -> Result<P
     requires few { B.size disk.old ≤ 2 ^ 31 }
     requires known { KnowsAreas (Some label) }
     ensures read { B.only_read disk.old disk.new }
+    ensures fits { IfOk result (AreasFit (B.size disk.old)) }
     ensures physical { IsTrue B.tells → IfOk result (HasOneText (B.size disk.old) (B.image disk.old) label) }
     ensures stop { IsTrue B.tells → IfErr result (IsStop (B.size disk.old) (B.image disk.old) label) }
     ensures device { IsErrOf result (NotKnown ContentFault.Device) → Rose (B.faults disk.old) (B.faults disk.new) }
@@ -110,6 +113,7 @@ fn found_alone<B: Blocks>(alloc: Global, disk: &mut B) -> Result<Found, ContentF
     requires { IsTrue B.tells → HasLabel (B.size disk.old) (B.image disk.old) None }
     ensures read { B.only_read disk.old disk.new }
     ensures found { IsTrue B.tells → IfOk result (IsFoundIn (B.size disk.old) (B.image disk.old)) }
+    ensures fits { IfOk result (FoundFits (B.size disk.old)) }
     ensures device { IsErrOf result ContentFault.Device → Rose (B.faults disk.old) (B.faults disk.new) }
 {
     match content_of(alloc, disk) {
@@ -125,6 +129,7 @@ fn found_with<B: Blocks>(alloc: Global, disk: &mut B, label: Label) -> Result<Fo
     requires known { KnowsAreas (Some label) }
     ensures read { B.only_read disk.old disk.new }
     ensures found { IsTrue B.tells → IfOk result (IsFoundIn (B.size disk.old) (B.image disk.old)) }
+    ensures fits { IfOk result (FoundFits (B.size disk.old)) }
     ensures device { IsErrOf result ContentFault.Device → Rose (B.faults disk.old) (B.faults disk.new) }
 {
     match physical_of(alloc, disk, label) {
@@ -143,6 +148,7 @@ pub fn find<B: Blocks>(alloc: Global, disk: &mut B) -> Result<Found, ContentFaul
     requires { B.size disk.old ≤ 2 ^ 31 }
     ensures read { B.only_read disk.old disk.new }
     ensures found { IsTrue B.tells → IfOk result (IsFoundIn (B.size disk.old) (B.image disk.old)) }
+    ensures fits { IfOk result (FoundFits (B.size disk.old)) }
     ensures device { IsErrOf result ContentFault.Device → Rose (B.faults disk.old) (B.faults disk.new) }
 {
     let label = match label_of(disk) {
