@@ -1,3 +1,3 @@
 mod Spans
 mod Members
-mod Lying
+pub mod Lying

@@ -198,7 +198,7 @@ spans_apart ps extent members a b apart placed_a placed_b is = by (cases_eq b.me
         (members_apart members a.member b.member apart placed_a.known placed_b.known (λ (e : a.member ≡ b.member). other (sym e)))
 
 -- pairs of what a function gives
-pairs_map : {X Y : Type 0} (R : Y → Y → Type 0) (f : X → Y) (xs : List X) → ((i j : ℕ) (d : X) → i < j → j < length xs → R (f (slice_index_or xs i d)) (f (slice_index_or xs j d)))
+pub pairs_map : {X Y : Type 0} (R : Y → Y → Type 0) (f : X → Y) (xs : List X) → ((i j : ℕ) (d : X) → i < j → j < length xs → R (f (slice_index_or xs i d)) (f (slice_index_or xs j d)))
     → AllPairs R (map f xs)
 pairs_map {X} {Y} R f [] each = λ i j d before inside. absurd (omega (arith, inside))
 pairs_map {X} {Y} R f (x ∷ xs) each = λ i j d before inside.

@@ -1,0 +1,3 @@
+mod Owning
+mod Seeing
+mod Splitting
