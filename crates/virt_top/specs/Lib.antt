@@ -1,5 +1,1 @@
 pub mod FileDisk
-pub mod Lines
-pub mod Ran
-pub mod Words
-pub mod inside

@@ -1,29 +1,22 @@
 //! virt-resize and virt-sparsify: the program.
 //!
 //! It makes the devices, a disk over each of two files and a sink over each of two streams, and calls
-//! [`run::run`], whose contract says what the program does. `specs/Ran.antt` says it in words of disks
-//! and text. The files and streams themselves are trusted.
+//! [`virt_run::run`], whose contract says what the program does. `specs/Ran.antt` of that crate says it in words of
+//! disks and text. The files and streams themselves are trusted.
 #![tactic(auto)]
 
 #[cfg(test)]
 mod file_tests;
 mod files;
-mod report;
-#[cfg(test)]
-mod resize_tests;
-mod run;
 mod streams;
-#[cfg(test)]
-mod tests;
-mod tool;
 
 use disk_base::Sink;
 use files::FileDisk;
-use run::run;
 use std::alloc::{AllocError, Global};
 use std::process::ExitCode;
 use std::{env, io};
 use streams::StdSink;
+use virt_run::run;
 
 // The words of the command line after the program's own name.
 fn words_of(rt: &HostRuntime, alloc: Global) -> Result<Vec<String>, Failure> {

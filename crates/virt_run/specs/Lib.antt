@@ -1,0 +1,4 @@
+pub mod Lines
+pub mod Ran
+pub mod Words
+pub mod inside

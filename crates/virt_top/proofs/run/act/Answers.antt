@@ -1,5 +1,0 @@
-use Rattle.virt_top.proofs.RunLemmas.{ended_misused}
-use Rattle.virt_top.proofs.run.act.Goals as goal
-
-pub returns-in-Err-clause-ended : goal.returns-in-Err-clause-ended
-returns-in-Err-clause-ended g c = rw c.refusal_of.ensures (ended_misused _ _ c.in-Err.usage (g.met.T.Disk.stops_are c.args.target.now) c.in-Err.ensures.answer)
