@@ -1,3 +1,4 @@
+mod Alike
 mod Owning
 mod Seeing
 mod Splitting
