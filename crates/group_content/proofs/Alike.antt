@@ -23,7 +23,7 @@ use Rattle.partition_content.specs.declared.found.Found.{Found}
 use Rattle.partition_content.specs.declared.found.Found.TheVariants.{Physical as IsPhysical, Inner as IsAlone}
 use Rattle.volume_content.specs.declared.content.Why.{Why}
 use Rattle.volume_content.specs.declared.content.Why.TheVariants as why
-use Rattle.group_content.specs.Grouped.{device_from, device_of, first_number, member_runs, members_with, runs_held, volume_places}
+use Rattle.group_content.specs.Grouped.{device_from, device_of, first_part, member_runs, members_with, runs_held, volume_places}
 use Rattle.group_runs.specs.Places.{disk_runs}
 use Rattle.group_content.specs.Laws.{AreAlikeGroups, AreAlikeStandings}
 use Rattle.group_content.specs.Standing.{HasGroupFault, IsGroupOf, IsHolder, IsLaterMember, IsMembership, IsStandingBy, IsStandingOf, MakeNoGroup}

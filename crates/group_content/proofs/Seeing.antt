@@ -11,14 +11,14 @@ use Rattle.lvm_group.specs.declared.group.Group.{Group}
 use Rattle.volume_content.specs.declared.content.Why.{Why}
 use Rattle.volume_content.specs.declared.content.Why.TheVariants as why
 use Rattle.std.proofs.lemmas.List.{get_or_append_left, get_or_at, get_or_default, length_push}
-use Rattle.group_content.specs.Grouped.{AreInPlace, HaveTwoNumbers, device_of, first_number, has_text, members_with}
+use Rattle.group_content.specs.Grouped.{AreInPlace, HaveTwoNumbers, device_of, first_part, has_text, members_with}
 use Rattle.group_content.specs.Standing.{IsGroupOf, IsStanding, IsStandingBy, IsStandingOf, MakeNoGroup}
 use Rattle.group_content.specs.declared.types.FoundPartition.{FoundPartition}
 use Rattle.group_content.specs.declared.types.GroupContent.{GroupContent}
 use Rattle.group_content.specs.declared.types.Membership.{Membership}
 use Rattle.group_content.specs.declared.types.Standing.{Standing}
 use Rattle.group_content.specs.declared.types.Standing.TheVariants.{Alone, Holder, Member, Unread}
-use Rattle.group_content.specs.inside.Firsts.{AreStandingsOf, HasText, IsHeldBy, IsSeenFrom}
+use Rattle.group_content.specs.inside.Firsts.{AreStandingsOf, HasTextAt, IsHeldBy, IsSeenFrom}
 
 pub seen_holder : (number : ℕ) (membership later : Membership) (content : GroupContent) → later.holder ≡ membership.holder → later.device ≡ device_of content.group number
     → IsSeenFrom number (Holder membership content) (Member later)
@@ -72,8 +72,8 @@ stands_by partitions text number (IsAlone inner) standing has is = absurd (false
 
 -- what is seen from a later partition with the text of the first one
 pub later_is : (partitions : List FoundPartition) (known : List Standing) (first : ℕ) (text : List ℕ) (physical : Physical) (p : FoundPartition) (s later : Standing)
-    → AllPairs HaveTwoNumbers partitions → AreStandingsOf partitions known → length known < length partitions → first < length known → HasText text partitions first
-    → ((d : FoundPartition) → (slice_index_or partitions first d).number ≡ first_number (members_with text partitions))
+    → AllPairs HaveTwoNumbers partitions → AreStandingsOf partitions known → length known < length partitions → first < length known → HasTextAt text partitions first
+    → ((d : FoundPartition) → (slice_index_or partitions first d).number ≡ first_part (members_with text partitions))
     → p ≡ slice_index_or partitions (length known) p → p.found ≡ IsPhysical physical → text ≡ physical.first.text → s ≡ slice_index_or known first s
     → IsSeenFrom p.number s later → (d : FoundPartition) → IsStanding partitions (slice_index_or partitions (length known) d) later
 later_is partitions known first text physical p s later two known_are more before has number at is_physical text_is at_first seen d =
@@ -81,9 +81,9 @@ later_is partitions known first text physical p s later two known_are more befor
     let first_is : IsStanding partitions (slice_index_or partitions first p) s = subst (IsStanding partitions (slice_index_or partitions first p)) (sym at_first) (known_are.each first p s before) in
     let by_text : IsStandingBy partitions text (slice_index_or partitions first p).number s =
     stands_by partitions text (slice_index_or partitions first p).number (slice_index_or partitions first p).found s (has p) first_is in
-    let by_first : IsStandingBy partitions text (first_number (members_with text partitions)) s = subst (λ (n : ℕ). IsStandingBy partitions text n s) (number p) by_text in
-    let differ : first_number (members_with text partitions) ≡ p.number → ⊥ =
-    λ (e : first_number (members_with text partitions) ≡ p.number). two first (length known) p before more (number p ∙ e ∙ ap (λ (x : FoundPartition). x.number) at) in
+    let by_first : IsStandingBy partitions text (first_part (members_with text partitions)) s = subst (λ (n : ℕ). IsStandingBy partitions text n s) (number p) by_text in
+    let differ : first_part (members_with text partitions) ≡ p.number → ⊥ =
+    λ (e : first_part (members_with text partitions) ≡ p.number). two first (length known) p before more (number p ∙ e ∙ ap (λ (x : FoundPartition). x.number) at) in
     let own : IsStandingBy partitions text p.number later = seen partitions text by_first differ in
     let here : IsStanding partitions p later =
     subst (λ (f : Found). IsStandingOf partitions p.number f later) (sym is_physical) (subst (λ (t : List ℕ). IsStandingBy partitions t p.number later) text_is own) in

@@ -41,9 +41,9 @@ members_with text [] = []
 members_with text (partition ∷ partitions) = member_before text partition partition.found (members_with text partitions)
 
 -- the number of the first of them
-abbrev pub first_number : List Member → ℕ
-first_number [] = 0
-first_number (m ∷ ms) = m.part
+abbrev pub first_part : List Member → ℕ
+first_part [] = 0
+first_part (m ∷ ms) = m.part
 
 -- ---- where they stand
 

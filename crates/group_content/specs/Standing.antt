@@ -13,7 +13,7 @@ use Rattle.partition_content.specs.declared.found.Found.{Found}
 use Rattle.partition_content.specs.declared.found.Found.TheVariants.{Physical as IsPhysical, Inner as IsAlone}
 use Rattle.volume_content.specs.declared.content.Why.{Why}
 use Rattle.volume_content.specs.declared.content.Why.TheVariants as why
-use Rattle.group_content.specs.Grouped.{AreInPlace, HoldsInner, VolumeFits, device_of, first_number, members_with}
+use Rattle.group_content.specs.Grouped.{AreInPlace, HoldsInner, VolumeFits, device_of, first_part, members_with}
 use Rattle.group_content.specs.declared.types.FoundPartition.{FoundPartition}
 use Rattle.group_content.specs.declared.types.GroupContent.{GroupContent}
 use Rattle.group_content.specs.declared.types.Membership.{Membership}
@@ -46,7 +46,7 @@ MakeNoGroup partitions text (why.Group fault) = HasGroupFault partitions text fa
 -- what a member is in its group
 pub record IsMembership (partitions : List FoundPartition) (text : List ℕ) (number : ℕ) (group : Group) (membership : Membership) : Type 0 where
   pub is_group : IsGroupOf partitions text group
-  pub holder : membership.holder ≡ first_number (members_with text partitions)
+  pub holder : membership.holder ≡ first_part (members_with text partitions)
   pub device : membership.device ≡ device_of group number
 
 -- it is the first member, and the logical volumes stand where the group has them

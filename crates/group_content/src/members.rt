@@ -2,7 +2,7 @@
 ghost use Rattle.std.specs.Prelude.{◌≡◌, ◌<◌, ◌++◌, ◌∷◌, [], length, List, IfOk};
 ghost use Rattle.disk_base.specs.declared.run.Run.{Run as DiskRun};
 ghost use Rattle.group_content.specs.Grouped.{device_of, has_text, member_before, member_of, member_runs, members_with, run_numbered};
-ghost use Rattle.group_content.specs.inside.Firsts.{HasText, IsFirstWith};
+ghost use Rattle.group_content.specs.inside.Firsts.{HasTextAt, IsFirstWith};
 ghost use Rattle.lvm_group.specs.declared.types.Member.{Member as GroupMember};
 
 use crate::types::FoundPartition;
@@ -24,7 +24,7 @@ fn has_text(text: &[u8], found: &Found) -> bool
 /// The place of the first partition that has the text, of those before place `end` and of the one there, which has it.
 pub(crate) fn first_with(partitions: &[FoundPartition], text: &[u8], end: usize) -> usize
     requires inside { end < length partitions.now }
-    requires there { HasText text.now partitions.now end }
+    requires there { HasTextAt text.now partitions.now end }
     ensures { IsFirstWith text.now partitions.now end result }
 {
     for (k, partition) in partitions.iter().enumerate() {

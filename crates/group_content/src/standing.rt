@@ -2,9 +2,9 @@
 ghost use Rattle.std.specs.Prelude.{◌≡◌, ◌^◌, ◌<◌, ◌≤◌, ◌++◌, ◌∷◌, [], ℕ, List, length, All, AllPairs, IsTrue, IfOk, IfErr, IsErrOf, slice_index_or};
 ghost use Rattle.disk_base.specs.Faults.{Rose};
 ghost use Rattle.disk_base.specs.Run.{IsWithin};
-ghost use Rattle.group_content.specs.Grouped.{HaveTwoNumbers, LieApart, first_number, members_with};
+ghost use Rattle.group_content.specs.Grouped.{HaveTwoNumbers, LieApart, first_part, members_with};
 ghost use Rattle.group_content.specs.Standing.{AreStandings, HoldInners, IsGroupOf, IsStanding, IsStandingBy, StandingFits};
-ghost use Rattle.group_content.specs.inside.Firsts.{AreOnDisk, AreStandingsOf, IsHeldBy, IsHindered, IsSeenFrom, IsSomeGroup};
+ghost use Rattle.group_content.specs.inside.Firsts.{AreOnDisk, AreStandingsOf, IsHeldBy, IsUngrouped, IsSeenFrom, IsSomeGroup};
 ghost use Rattle.lvm_text.specs.Faults.{Spells};
 
 use crate::members::{device_of, first_with, member_runs, members_with};
@@ -21,7 +21,7 @@ use volume_content::{ContentFault, Why};
 // The tree that a text spells.
 fn tree_of(alloc: Global, text: &[u8]) -> Result<Tree, Ungrouped>
     ensures tree { IfOk result (Spells text.now) }
-    ensures fault { IfErr result (λ stop. (partitions : List FoundPartition) → IsHindered partitions text.now stop) }
+    ensures fault { IfErr result (λ stop. (partitions : List FoundPartition) → IsUngrouped partitions text.now stop) }
 {
     match read_text(alloc, text) {
         Ok(tree) => Ok(tree),
@@ -39,7 +39,7 @@ fn group_in(
 ) -> Result<Group, Ungrouped>
     requires { Spells text.now tree }
     ensures group { IfOk result (IsGroupOf partitions.now text.now) }
-    ensures fault { IfErr result (IsHindered partitions.now text.now) }
+    ensures fault { IfErr result (IsUngrouped partitions.now text.now) }
 {
     let members = match members_with(alloc, partitions, text) {
         Ok(members) => members,
@@ -55,7 +55,7 @@ fn group_in(
 // The group that the text spells over the partitions with the text.
 fn group_with(alloc: Global, partitions: &[FoundPartition], text: &[u8]) -> Result<Group, Ungrouped>
     ensures group { IfOk result (IsGroupOf partitions.now text.now) }
-    ensures fault { IfErr result (IsHindered partitions.now text.now) }
+    ensures fault { IfErr result (IsUngrouped partitions.now text.now) }
 {
     match tree_of(alloc, text) {
         Ok(tree) => group_in(alloc, partitions, text, tree),
@@ -107,7 +107,7 @@ fn first_standing<B: Blocks>(
 ) -> Result<Standing, ContentFault>
     requires few { B.size disk.old ≤ 2 ^ 31 }
     requires on_disk { AreOnDisk (B.size disk.old) partitions.now }
-    requires first { first_number (members_with text.now partitions.now) ≡ number }
+    requires first { first_part (members_with text.now partitions.now) ≡ number }
     ensures read { B.only_read disk.old disk.new }
     ensures standing { IfOk result (IsStandingBy partitions.now text.now number) }
     ensures inners { IsTrue B.tells → IfOk result (HoldInners (B.image disk.old)) }

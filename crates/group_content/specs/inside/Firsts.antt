@@ -5,7 +5,7 @@ use Rattle.lvm_group.specs.declared.group.Group.{Group}
 use Rattle.lvm_text.specs.Faults.{IsTextFault}
 use Rattle.lvm_text.specs.declared.fault.TextFault.TheVariants as texts
 use Rattle.volume_content.specs.declared.content.Why.TheVariants as why
-use Rattle.group_content.specs.Grouped.{HaveTwoNumbers, LieApart, first_number, has_text, members_with}
+use Rattle.group_content.specs.Grouped.{HaveTwoNumbers, LieApart, first_part, has_text, members_with}
 use Rattle.group_content.specs.Standing.{IsGroupOf, IsStanding, IsStandingBy, MakeNoGroup}
 use Rattle.group_content.specs.declared.types.FoundPartition.{FoundPartition}
 use Rattle.group_content.specs.declared.types.Standing.{Standing}
@@ -13,19 +13,19 @@ use Rattle.group_content.specs.declared.types.Ungrouped.{Ungrouped}
 use Rattle.group_content.specs.declared.types.Ungrouped.TheVariants.{Unread, Memory}
 
 -- the partition at a place has the text
-abbrev pub HasText : List ℕ → List FoundPartition → ℕ → Type 0
-HasText text partitions k = (default : FoundPartition) → has_text text (slice_index_or partitions k default).found ≡ true
+abbrev pub HasTextAt : List ℕ → List FoundPartition → ℕ → Type 0
+HasTextAt text partitions k = (default : FoundPartition) → has_text text (slice_index_or partitions k default).found ≡ true
 
 -- the one at place `k`, which isn't behind place `end`, is the first with the text
 pub record IsFirstWith (text : List ℕ) (partitions : List FoundPartition) (end k : ℕ) : Type 0 where
   pub before : k ≤ end
-  pub there : HasText text partitions k
-  pub first : (default : FoundPartition) → (slice_index_or partitions k default).number ≡ first_number (members_with text partitions)
+  pub there : HasTextAt text partitions k
+  pub first : (default : FoundPartition) → (slice_index_or partitions k default).number ≡ first_part (members_with text partitions)
 
 -- why a text makes no group
-abbrev pub IsHindered : List FoundPartition → List ℕ → Ungrouped → Type 0
-IsHindered partitions text (Unread cause) = MakeNoGroup partitions text cause
-IsHindered partitions text Memory = Unit {0}
+abbrev pub IsUngrouped : List FoundPartition → List ℕ → Ungrouped → Type 0
+IsUngrouped partitions text (Unread cause) = MakeNoGroup partitions text cause
+IsUngrouped partitions text Memory = Unit {0}
 
 -- partitions lie on the disk, physical volumes lie apart, and no two have one number
 pub record AreOnDisk (size : ℕ) (partitions : List FoundPartition) : Type 0 where
@@ -41,13 +41,13 @@ pub record IsSomeGroup (partitions : List FoundPartition) (group : Group) : Type
 -- what the first with a text is, seen from a later one
 abbrev pub IsSeenFrom : ℕ → Standing → Standing → Type 0
 IsSeenFrom number standing later =
-    (partitions : List FoundPartition) (text : List ℕ) → IsStandingBy partitions text (first_number (members_with text partitions)) standing
-    → first_number (members_with text partitions) ≢ number → IsStandingBy partitions text number later
+    (partitions : List FoundPartition) (text : List ℕ) → IsStandingBy partitions text (first_part (members_with text partitions)) standing
+    → first_part (members_with text partitions) ≢ number → IsStandingBy partitions text number later
 
 -- the first with a text holds the group
 abbrev pub IsHeldBy : List FoundPartition → ℕ → Group → Standing → Type 0
 IsHeldBy partitions number group standing =
-    (text : List ℕ) → IsGroupOf partitions text group → first_number (members_with text partitions) ≡ number
+    (text : List ℕ) → IsGroupOf partitions text group → first_part (members_with text partitions) ≡ number
     → IsStandingBy partitions text number standing
 
 -- what the first of the partitions are, as many as there are standings
