@@ -203,7 +203,7 @@ pub fn standings<B: Blocks>(
     ensures device { IsErrOf result ContentFault.Device → Rose (B.faults disk.old) (B.faults disk.new) }
 {
     let mut standings = Vec::new(alloc);
-    for (k, _) in partitions.iter().enumerate() {
+    for _partition in partitions {
         let standing = next_standing(alloc, disk, partitions, standings.as_slice())?;
         standings = add(standings, standing)?;
     }
