@@ -50,7 +50,8 @@ first_part (m ∷ ms) = m.part
 -- the run of the partition of that number
 abbrev pub run_numbered : ℕ → List FoundPartition → Run
 run_numbered number [] = run_of 0 0
-run_numbered number (partition ∷ partitions) = if partition.number == number then partition.run else run_numbered number partitions
+run_numbered number (partition ∷ partitions) =
+    if partition.number == number then partition.run else run_numbered number partitions
 
 -- the runs of members on the disk
 abbrev pub member_runs : List FoundPartition → List Member → List Run
@@ -64,7 +65,8 @@ volume_places members group = map (λ (volume : Volume). disk_runs members volum
 abbrev pub device_from : ℕ → ℕ → ℕ → List Member → List PhysicalVolume → ℕ
 device_from n extent number [] physicals = 0
 device_from n extent number (m ∷ ms) physicals =
-    if m.part == number then device_sectors extent (slice_get physicals n) else device_from (suc n) extent number ms physicals
+    if m.part == number then device_sectors extent (slice_get physicals n)
+    else device_from (suc n) extent number ms physicals
 
 abbrev pub device_of : Group → ℕ → ℕ
 device_of group number = device_from 0 group.spelt.extent number group.members group.spelt.physicals

@@ -16,7 +16,8 @@ pub record AreAlikeGroups (one other : GroupContent) : Type 0 where
 -- the second is the first one; what the volumes of a group hold is said apart
 abbrev pub AreAlikeStandings : Standing → Standing → Type 0
 AreAlikeStandings Alone other = other ≡ Alone
-AreAlikeStandings (Holder membership content) (Holder membership' content') = (membership' ≡ membership) × AreAlikeGroups content content'
+AreAlikeStandings (Holder membership content) (Holder membership' content') =
+    (membership' ≡ membership) × AreAlikeGroups content content'
 AreAlikeStandings (Holder membership content) other = ⊥
 AreAlikeStandings (Member membership) other = other ≡ Member membership
 AreAlikeStandings (Unread cause) other = other ≡ Unread cause

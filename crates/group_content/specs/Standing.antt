@@ -44,22 +44,29 @@ MakeNoGroup partitions text (why.Text fault) = (fault ≢ texts.Memory) × IsTex
 MakeNoGroup partitions text (why.Group fault) = HasGroupFault partitions text fault
 
 -- what a member is in its group
-pub record IsMembership (partitions : List FoundPartition) (text : List ℕ) (number : ℕ) (group : Group) (membership : Membership) : Type 0 where
-  pub is_group : IsGroupOf partitions text group
-  pub holder : membership.holder ≡ first_part (members_with text partitions)
-  pub device : membership.device ≡ device_of group number
+pub record IsMembership
+    (partitions : List FoundPartition) (text : List ℕ) (number : ℕ) (group : Group) (membership : Membership) : Type 0
+  where
+    pub is_group : IsGroupOf partitions text group
+    pub holder : membership.holder ≡ first_part (members_with text partitions)
+    pub device : membership.device ≡ device_of group number
 
 -- it is the first member, and the logical volumes stand where the group has them
-pub record IsHolder (partitions : List FoundPartition) (text : List ℕ) (number : ℕ) (membership : Membership) (content : GroupContent) : Type 0 where
-  pub is : IsMembership partitions text number content.group membership
-  pub first : membership.holder ≡ number
-  pub in_place : AreInPlace partitions content
+pub record IsHolder
+    (partitions : List FoundPartition) (text : List ℕ) (number : ℕ) (membership : Membership)
+    (content : GroupContent) : Type 0
+  where
+    pub is : IsMembership partitions text number content.group membership
+    pub first : membership.holder ≡ number
+    pub in_place : AreInPlace partitions content
 
 -- it is a later one
-pub record IsLaterMember (partitions : List FoundPartition) (text : List ℕ) (number : ℕ) (membership : Membership) : Type 0 where
-  pub group : Group
-  pub is : IsMembership partitions text number group membership
-  pub later : membership.holder ≢ number
+pub record IsLaterMember
+    (partitions : List FoundPartition) (text : List ℕ) (number : ℕ) (membership : Membership) : Type 0
+  where
+    pub group : Group
+    pub is : IsMembership partitions text number group membership
+    pub later : membership.holder ≢ number
 
 -- what the partition of that number with that text is
 abbrev pub IsStandingBy : List FoundPartition → List ℕ → ℕ → Standing → Type 0
@@ -69,7 +76,8 @@ IsStandingBy partitions text number (Member membership) = IsLaterMember partitio
 IsStandingBy partitions text number (Unread cause) = MakeNoGroup partitions text cause
 
 abbrev pub IsStandingOf : List FoundPartition → ℕ → Found → Standing → Type 0
-IsStandingOf partitions number (IsPhysical physical) standing = IsStandingBy partitions physical.first.text number standing
+IsStandingOf partitions number (IsPhysical physical) standing =
+    IsStandingBy partitions physical.first.text number standing
 IsStandingOf partitions number (IsAlone inner) standing = standing ≡ Alone
 
 -- what a partition is among these

@@ -19,7 +19,8 @@ VolumesLieInMembers =
 abbrev pub VolumesLieApart : Type 0
 VolumesLieApart =
     (items : List Item) (ms : List Member) (g : Group) (members : List Run) → IsGroup items ms g
-    → AreMemberRuns g.members members → AllPairs AreApart members → AllPairs AreApart (disk_runs members (runs_of_volumes g))
+    → AreMemberRuns g.members members → AllPairs AreApart members
+    → AllPairs AreApart (disk_runs members (runs_of_volumes g))
 
 -- and where these lie on the disk, so does what lies in them
 abbrev pub RunsLieOnDisk : Type 0
@@ -34,10 +35,12 @@ MembersAreFound = (items : List Item) (ms : List Member) (g : Group) → IsGroup
 -- and no two of them are one
 abbrev pub MembersDiffer : Type 0
 MembersDiffer =
-    (items : List Item) (ms : List Member) (g : Group) → IsGroup items ms g → AllPairs (λ (a b : Member). a ≢ b) g.members
+    (items : List Item) (ms : List Member) (g : Group) → IsGroup items ms g
+    → AllPairs (λ (a b : Member). a ≢ b) g.members
 
 -- what the text says that a physical volume has ends within its partition
 abbrev pub DevicesFit : Type 0
 DevicesFit =
-    (items : List Item) (ms : List Member) (g : Group) (m : ℕ) (default : Member) → IsGroup items ms g → m < length g.members
+    (items : List Item) (ms : List Member) (g : Group) (m : ℕ) (default : Member) → IsGroup items ms g
+    → m < length g.members
     → device_sectors g.spelt.extent (slice_get g.spelt.physicals m) ≤ (slice_index_or g.members m default).sectors

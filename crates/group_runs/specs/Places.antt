@@ -1,5 +1,5 @@
--- Where runs of a group's physical volumes stand on a disk. `members` has the run of each physical volume on the disk, in
--- the group's order.
+-- Where runs of a group's physical volumes stand on a disk. `members` has the run of each physical volume on the disk,
+-- in the group's order.
 use Rattle.std.specs.Prelude.{◌≡◌, ℕ, ◌+◌, ◌<◌, ◌≤◌, List, length, map, flat_map, slice_index_or}
 use Rattle.disk_base.specs.Run.{run_of}
 use Rattle.disk_base.specs.declared.run.Run.{Run}

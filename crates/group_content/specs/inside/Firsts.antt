@@ -14,13 +14,15 @@ use Rattle.group_content.specs.declared.types.Ungrouped.TheVariants.{Unread, Mem
 
 -- the partition at a place has the text
 abbrev pub HasTextAt : List ℕ → List FoundPartition → ℕ → Type 0
-HasTextAt text partitions k = (default : FoundPartition) → has_text text (slice_index_or partitions k default).found ≡ true
+HasTextAt text partitions k =
+    (default : FoundPartition) → has_text text (slice_index_or partitions k default).found ≡ true
 
 -- the one at place `k`, which isn't behind place `end`, is the first with the text
 pub record IsFirstWith (text : List ℕ) (partitions : List FoundPartition) (end k : ℕ) : Type 0 where
   pub before : k ≤ end
   pub there : HasTextAt text partitions k
-  pub first : (default : FoundPartition) → (slice_index_or partitions k default).number ≡ first_part (members_with text partitions)
+  pub first : (default : FoundPartition)
+      → (slice_index_or partitions k default).number ≡ first_part (members_with text partitions)
 
 -- why a text makes no group
 abbrev pub IsUngrouped : List FoundPartition → List ℕ → Ungrouped → Type 0
@@ -41,7 +43,8 @@ pub record IsSomeGroup (partitions : List FoundPartition) (group : Group) : Type
 -- what the first with a text is, seen from a later one
 abbrev pub IsSeenFrom : ℕ → Standing → Standing → Type 0
 IsSeenFrom number standing later =
-    (partitions : List FoundPartition) (text : List ℕ) → IsStandingBy partitions text (first_part (members_with text partitions)) standing
+    (partitions : List FoundPartition) (text : List ℕ)
+    → IsStandingBy partitions text (first_part (members_with text partitions)) standing
     → first_part (members_with text partitions) ≢ number → IsStandingBy partitions text number later
 
 -- the first with a text holds the group
