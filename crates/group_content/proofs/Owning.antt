@@ -3,11 +3,12 @@ use Rattle.std.proofs.Common.{◌≡◌, ℕ, zero, suc, ◌+◌, ◌<◌, ◌�
 use Rattle.std.specs.Prelude.{◌≢◌, Option, Some, None, if◌then◌else◌, ◌==◌, All, AllPairs, Contains, slice_get}
 use Rattle.std.specs.Str.{bytes_eq}
 use Rattle.std.proofs.lemmas.Bool.{cases_order, eq-eqb, ne_eqb}
-use Rattle.std.proofs.lemmas.List.{drop_more, get_or-map, length-map, map_more}
+use Rattle.std.proofs.lemmas.List.{drop_more, map_more}
 use Rattle.std.proofs.lemmas.List.Elements.{All-head, All-map, All-tail, All-weaker}
 use Rattle.std.proofs.lemmas.Option.{get_or_from_slice_get}
 use Rattle.disk_base.specs.Run.{AreApart, IsWithin, run_of}
 use Rattle.disk_base.specs.declared.run.Run.{Run}
+use Rattle.group_runs.proofs.Lying.{pairs_map}
 use Rattle.group_runs.specs.Places.{AreMemberRuns}
 use Rattle.lvm_group.specs.Volumes.{device_sectors}
 use Rattle.lvm_group.specs.declared.types.Member.{Member}
@@ -159,15 +160,8 @@ runs_apart partitions a b apart two own other differ =
     subst (λ (run : Run). AreApart run (run_numbered b.part partitions)) (sym (own_run partitions a two own))
     (subst (AreApart (slice_index_or partitions own.k no_one).run) (sym (own_run partitions b two other)) (two_apart partitions a b apart own other differ))
 
-no_member : Member
-no_member = record { part = 0; label = record { sector = 0; offset = 0; id = []; size = 0; areas = 0; start = 0; length = 0; second = None }; sectors = 0 }
-
 pub members_apart : (partitions : List FoundPartition) (ms : List Member) → AllPairs LieApart partitions → AllPairs HaveTwoNumbers partitions → All (IsOwn partitions) ms
     → AllPairs (λ (a b : Member). a ≢ b) ms → AllPairs AreApart (member_runs partitions ms)
-members_apart partitions ms apart two own differ = λ i j d before inside.
-    let long : length (member_runs partitions ms) ≡ length ms = length-map ms (λ (m : Member). run_numbered m.part partitions) in
-    let in_j : j < length ms = omega (arith, inside, long) in
-    let in_i : i < length ms = omega (arith, before, in_j) in
-    subst (λ (run : Run). AreApart run (slice_index_or (member_runs partitions ms) j d)) (sym (get_or-map (λ (m : Member). run_numbered m.part partitions) ms i no_member d in_i))
-    (subst (AreApart (run_numbered (slice_index_or ms i no_member).part partitions)) (sym (get_or-map (λ (m : Member). run_numbered m.part partitions) ms j no_member d in_j))
-    (runs_apart partitions (slice_index_or ms i no_member) (slice_index_or ms j no_member) apart two (own i no_member in_i) (own j no_member in_j) (differ i j no_member before in_j)))
+members_apart partitions ms apart two own differ =
+    pairs_map AreApart (λ (m : Member). run_numbered m.part partitions) ms
+    (λ i j d before inside. runs_apart partitions (slice_index_or ms i d) (slice_index_or ms j d) apart two (own i d (omega (arith, before, inside))) (own j d inside) (differ i j d before inside))

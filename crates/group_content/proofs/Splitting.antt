@@ -73,12 +73,6 @@ pub volume_apart : (members : List Run) (volumes : List Volume) (lv : ℕ) (runs
 volume_apart members volumes lv runs inside are all =
     subst (λ (rs : List (ℕ × ℕ × ℕ)). AllPairs AreApart (disk_runs members rs)) (sym (runs_at volumes lv runs inside are)) (part_apart members volumes lv inside all)
 
-pub runs_within : (size : ℕ) (members : List Run) (runs : List (ℕ × ℕ × ℕ)) → All (IsWithin size) members → All (LiesInMember members) runs → All (IsWithin size) (disk_runs members runs)
-runs_within size members runs within lie =
-    All-map (IsWithin size) (disk_run members) runs
-    (All-weaker (LiesInMember members) (λ (run : ℕ × ℕ × ℕ). IsWithin size (disk_run members run))
-    (λ (run : ℕ × ℕ × ℕ) (lies : LiesInMember members run). omega (arith, lies.inside, within run.0 (run_of 0 0) lies.known)) runs lie)
-
 -- one volume more is read
 pub place_more : (members : List Run) (volumes : List Volume) (done items : List GroupVolume) (volume : GroupVolume) (lv : ℕ) (runs : List (ℕ × ℕ × ℕ)) → lv < length volumes
     → AreRunsAt volumes lv runs → items ≡ done ++ volume ∷ [] → volume.runs.items ≡ disk_runs members runs

@@ -1,5 +1,5 @@
 -- The partitions whose metadata areas hold one text, as a group takes them, and where its volumes stand on the disk.
-use Rattle.std.specs.Prelude.{◌≡◌, ◌≢◌, ℕ, suc, Bool, false, List, [], ◌∷◌, map, Option, Some, None, if◌then◌else◌, ◌==◌, slice_get, All}
+use Rattle.std.specs.Prelude.{◌≡◌, ◌≢◌, ℕ, suc, Bool, false, List, [], ◌∷◌, map, if◌then◌else◌, ◌==◌, slice_get}
 use Rattle.std.specs.Str.{bytes_eq}
 use Rattle.disk_base.specs.Run.{AreApart, run_of}
 use Rattle.disk_base.specs.declared.run.Run.{Run}

@@ -1,8 +1,8 @@
 //! What the physical volumes of a disk make together: groups of volumes, and what their logical volumes hold.
 //!
 //! It is for whoever looks at all partitions of a guest, once it is known what each of them holds by itself:
-//! [`standings`] answers for each partition whether it stands alone, holds a group (the member of least number does),
-//! is a later member of one, or isn't read, and why.
+//! [`standings`] answers for each partition whether it stands alone, holds a group (its first member does), is a
+//! later member of one, or isn't read, and why.
 //!
 //! It promises upwards: partitions whose metadata areas hold one text, byte for byte, are members of the group that the
 //! text spells, or are all unread for its fault; each logical volume's runs on the disk, which lie apart, and what they

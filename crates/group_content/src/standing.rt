@@ -181,8 +181,7 @@ fn add(standings: Vec<Standing>, standing: Standing) -> Result<Vec<Standing>, Co
 }
 
 /// What each of the partitions is among them all, in their order: `partitions` are all of a disk of at most 2^31
-/// sectors, no two of one number, and those that are physical volumes lie apart. Each text is read once, by its first
-/// partition. Nothing is written.
+/// sectors, no two of one number, and those that are physical volumes lie apart. Nothing is written.
 ///
 /// # Errors
 ///

@@ -30,7 +30,7 @@ pub struct GroupContent {
 /// What a partition is in its group.
 #[derive(Clone, Copy, Debug, PartialEq, Eq)]
 pub struct Membership {
-    /// The number of the partition that holds the group: the member of least number.
+    /// The number of the partition that holds the group, which is its first member.
     pub holder: u32,
     /// How many of its sectors it has by the group's text.
     pub device: u64,
@@ -41,7 +41,7 @@ pub struct Membership {
 pub enum Standing {
     /// It is no physical volume whose text is known.
     Alone,
-    /// It holds a group, as its member of least number.
+    /// It holds a group, as its first member.
     Holder(Membership, GroupContent),
     /// It is a later member of a group.
     Member(Membership),

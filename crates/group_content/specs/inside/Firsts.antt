@@ -2,9 +2,6 @@
 use Rattle.std.specs.Prelude.{◌≡◌, ◌≢◌, ℕ, ◌<◌, ◌≤◌, true, List, length, slice_index_or, All, AllPairs}
 use Rattle.disk_base.specs.Run.{IsWithin}
 use Rattle.lvm_group.specs.declared.group.Group.{Group}
-use Rattle.lvm_text.specs.Faults.{IsTextFault}
-use Rattle.lvm_text.specs.declared.fault.TextFault.TheVariants as texts
-use Rattle.volume_content.specs.declared.content.Why.TheVariants as why
 use Rattle.group_content.specs.Grouped.{HaveTwoNumbers, LieApart, first_part, has_text, members_with}
 use Rattle.group_content.specs.Standing.{IsGroupOf, IsStanding, IsStandingBy, MakeNoGroup}
 use Rattle.group_content.specs.declared.types.FoundPartition.{FoundPartition}

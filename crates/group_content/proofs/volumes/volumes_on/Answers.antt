@@ -1,10 +1,11 @@
 use Rattle.std.proofs.Common.{◌≡◌, ℕ, ◌*◌, ◌<◌, ◌++◌, ◌∷◌, [], List, length, All, arith, sym, ap, subst, ◌∙◌, IsTrue}
 use Rattle.std.proofs.lemmas.List.Elements.{All-push, All-same}
 use Rattle.disk_base.specs.Run.{IsWithin}
+use Rattle.group_runs.proofs.Lying.{runs_on_disk}
 use Rattle.group_runs.specs.Places.{disk_runs}
 use Rattle.group_content.specs.Grouped.{HoldsInner, VolumeFits}
 use Rattle.group_content.specs.declared.types.GroupVolume.{GroupVolume}
-use Rattle.group_content.proofs.Splitting.{place_more, runs_within, volume_apart, volume_lies}
+use Rattle.group_content.proofs.Splitting.{place_more, volume_apart, volume_lies}
 use Rattle.group_content.proofs.volumes.volumes_on.Goals as goal
 
 pub volume_on-requires-clause-lie : goal.volume_on-requires-clause-lie
@@ -14,7 +15,7 @@ volume_on-requires-clause-lie g c =
 pub volume_on-requires-clause-inside : goal.volume_on-requires-clause-inside
 volume_on-requires-clause-inside g c =
     subst (λ (n : ℕ). All (IsWithin n) (disk_runs c.args.members.now c.runs_of.result.now)) (sym (g.met.B.Blocks.same_size _ _ c.loop-lv.invariant.read))
-    (runs_within (g.B.Blocks.size c.args.disk.now) c.args.members.now c.runs_of.result.now c.requires.inside
+    (runs_on_disk (g.B.Blocks.size c.args.disk.now) c.args.members.now c.runs_of.result.now c.requires.inside
     (volume_lies c.args.members.now c.args.group.now.volumes c.loop-lv.lv c.runs_of.result.now (omega arith) c.runs_of.ensures c.requires.lie))
 
 pub volume_on-requires-clause-apart : goal.volume_on-requires-clause-apart
