@@ -9,7 +9,7 @@ use Rattle.disk_base.specs.Image.{bytes_at}
 use Rattle.xfs_alloc.proofs.Same.{same_free}
 use Rattle.xfs_alloc.specs.Free.{FreeSeen, free_seen, tree_claims}
 use Rattle.xfs_check.proofs.Shares.{agree_both, agree_less, agree_on_held, block_held, blocks_hold, flat_twice, held, held_part, in_run, inode_held, inode_holds, map_flat, places_of}
-use Rattle.xfs_check.specs.Frame.{FreeCarriesNoFile, file_at, volume_on}
+use Rattle.xfs_check.specs.Frame.{FreeCarriesNoFile, HasSameFiles, file_at, volume_on}
 use Rattle.xfs_check.specs.Parts.{LogBlocks, free_list_claims, group_parts, groups_parts, header_claims, inode_parts, inodes_parts, volume_free, volume_parts}
 use Rattle.xfs_check.specs.Seen.{GroupHead, InodeBlock, SeenGroup, SeenVolume, agf_seen, agi_seen, chunk_block_seen, chunk_seen, chunks_seen, free_inode_levels, free_inode_tree, geometry_seen, group_of, group_seen, group_with, groups_seen, head_seen, inode_at_place, inode_block_seen, inode_block_with, inodes_in_bytes, inodes_of_blocks, volume_seen, seen_with}
 use Rattle.xfs_check.specs.Valid.{IsValidVolume}
@@ -274,12 +274,14 @@ pub seen_superblock : (d : ℕ → List ℕ) → (volume_seen d).superblock ≡ 
 unfolding volume_seen
 seen_superblock d = refl
 
-pub frame : (sectors : ℕ) (image : List ℕ) → IsValidVolume sectors (volume_on image) → FreeCarriesNoFile sectors image
-frame sectors image valid other differs =
+-- volumes that hold the same in all that is held have the same files, on any disk on which the first one is valid
+pub same_files : (sectors : ℕ) (image other : List ℕ) → IsValidVolume sectors (volume_on image)
+    → AgreeOn (held (geometry_seen (volume_on image)) (volume_parts (geometry_seen (volume_on image)) (volume_on image))) (block image) (block other)
+    → HasSameFiles sectors (volume_on image) (volume_on other)
+same_files sectors image other valid agree =
     let d : ℕ → List ℕ = block image in
     let e : ℕ → List ℕ = block other in
     let s : SeenVolume = volume_seen d in
-    let agree : AgreeOn (held (geometry_seen s) (volume_parts (geometry_seen s) s)) d e = agree_on_held s d e valid.apart (outside_of (volume_free s) image other differs) in
     let is : s.superblock ≡ d 0 = seen_superblock d in
     let sound : IsSuperblock sectors (d 0) = subst (IsSuperblock sectors) is valid.superblock in
     let there : AgreeOn (held (geometry_in (d 0)) (volume_parts (geometry_in (d 0)) s)) d e = subst (λ (l : List ℕ). AgreeOn (held (geometry_in l) (volume_parts (geometry_in l) s)) d e) is agree in
@@ -291,3 +293,8 @@ frame sectors image valid other differs =
       free = ap (λ (v : SeenVolume). volume_free v) same;
       files = λ path. ap (λ (v : SeenVolume). file_at v path) same;
     }
+
+pub frame : (sectors : ℕ) (image : List ℕ) → IsValidVolume sectors (volume_on image) → FreeCarriesNoFile sectors image
+frame sectors image valid other differs =
+    let s : SeenVolume = volume_on image in
+    same_files sectors image other valid (agree_on_held s (block image) (block other) valid.apart (outside_of (volume_free s) image other differs))

@@ -1,5 +1,6 @@
 pub mod Excluded
 pub mod Frames
+pub mod Bounds
 pub mod Shares
 pub mod Marking
 pub mod Heads

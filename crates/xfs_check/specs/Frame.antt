@@ -1,5 +1,5 @@
 -- The files of a volume, and that what is free in it carries none of them.
-use Rattle.std.specs.Prelude.{◌≡◌, ℕ, Option, List}
+use Rattle.std.specs.Prelude.{◌≡◌, ℕ, ◌*◌, ◌<◌, ◌≤◌, Option, List}
 use Rattle.block_claims.specs.Agreement.{block, DiffersIn}
 use Rattle.xfs_check.specs.Seen.{SeenVolume, geometry_seen, inodes_of_groups, volume_seen}
 use Rattle.xfs_check.specs.Parts.{volume_free}
@@ -27,4 +27,15 @@ pub record HasSameFiles (sectors : ℕ) (s other : SeenVolume) : Type 0 where
 abbrev pub FreeCarriesNoFile : ℕ → List ℕ → Type 0
 FreeCarriesNoFile sectors image =
     (other : List ℕ) → DiffersIn (volume_free (volume_on image)) image other
+    → HasSameFiles sectors (volume_on image) (volume_on other)
+
+-- the first blocks of two images, so many, are the same
+abbrev pub BeginAlike : ℕ → List ℕ → List ℕ → Type 0
+BeginAlike count image other = (n : ℕ) → n < count → block other n ≡ block image n
+
+-- on any disk that begins with the blocks of the volume and has room for them, there is the same volume
+abbrev pub StaysOnOtherDisk : List ℕ → Type 0
+StaysOnOtherDisk image =
+    (sectors : ℕ) (other : List ℕ) → 8 * (geometry_seen (volume_on image)).dblocks ≤ sectors
+    → BeginAlike (geometry_seen (volume_on image)).dblocks image other
     → HasSameFiles sectors (volume_on image) (volume_on other)

@@ -5,6 +5,8 @@
 //!
 //! It promises upwards, besides: what is free in a valid volume carries no file. Whatever its free blocks hold, it is
 //! valid, has the same blocks free, and has the same file at each path, with all its bytes, attributes and times.
+//! And a valid volume lies in the blocks that its superblock counts: on any disk that begins with them and has room for
+//! them, it is the same.
 //!
 //! What is seen of a volume is a value that has each block which the check stands on: `specs/Seen.antt` has it, after the
 //! XFS Algorithms & Data Structures guide. All else is a function of that value: `specs/Parts.antt` says which blocks
@@ -29,5 +31,7 @@ mod unmount;
 mod volume;
 
 pub use checking::check;
-pub use laws::{free_holds_nothing, groups_stay_in_growth, no_reason_against_valid};
+pub use laws::{
+    blocks_hold_volume, free_holds_nothing, groups_stay_in_growth, no_reason_against_valid,
+};
 pub use volume::Volume;
