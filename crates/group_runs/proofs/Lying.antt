@@ -24,8 +24,9 @@ use Rattle.lvm_group.specs.declared.types.Member.{Member}
 use Rattle.lvm_group.specs.declared.types.PhysicalVolume.{PhysicalVolume}
 use Rattle.lvm_group.specs.declared.types.Spelt.{Spelt}
 use Rattle.lvm_text.specs.declared.tree.Item.{Item}
+use Rattle.group_runs.specs.Laws.{LiesInDevice, VolumesLieInDevices}
 use Rattle.group_runs.specs.Places.{AreMemberRuns, LiesInMember, disk_run, disk_runs, member_run, runs_of_volumes}
-use Rattle.group_runs.proofs.Members.{AreAligned, IsFoundFor, aligned, device_fits, extents_at, extents_past, fits_found, members_differ, members_found, no_volume, start_at}
+use Rattle.group_runs.proofs.Members.{AreAligned, IsFoundFor, aligned, device_fits, extents_at, extents_past, fits_found, members_differ, members_found, no_volume, slice_get_inside, start_at}
 use Rattle.group_runs.proofs.Spans.{AreLaid, IsBehind, LiesIn, all_runs_are, volumes_laid}
 
 -- a group without a fault
@@ -130,6 +131,26 @@ volumes_in_members items ms g members is are =
     (All-map (LiesInMember members) (run_of_span g.spelt.physicals g.spelt.extent) (all_spans g.spelt.physicals g.spelt.logicals)
     (All-weaker (IsPlacedSpan g.spelt.physicals g.spelt.extent members) (λ (s : Span). LiesInMember members (run_of_span g.spelt.physicals g.spelt.extent s))
     (lies_in_member g.spelt.physicals g.spelt.extent members) (all_spans g.spelt.physicals g.spelt.logicals) (all_placed items ms g members is are)))
+
+-- what the text says of the physical volume holds the extents
+in_device : (ps : List PhysicalVolume) (extent : ℕ) (s : Span) → LiesIn ps s
+    → (run_of_span ps extent s).1 + (run_of_span ps extent s).2 ≤ device_sectors extent (slice_get ps s.member)
+in_device ps extent s lies =
+    let p : PhysicalVolume = slice_index_or ps s.member no_volume in
+    let known : s.member < length ps = span_known ps s lies in
+    let extents : extents_from 0 s.member ps ≡ p.count = extents_at ps 0 s.member s.member no_volume (omega arith) known in
+    let start : start_from 0 s.member ps ≡ p.start = start_at ps 0 s.member s.member no_volume (omega arith) known in
+    let most : (s.first + s.count) * extent ≤ p.count * extent = mul-le (s.first + s.count) extent p.count extent (omega (arith, lies.inside, extents)) (omega arith) in
+    let parts : (s.first + s.count) * extent ≡ s.first * extent + s.count * extent = omega arith in
+    subst (λ (o : Option PhysicalVolume). start_from 0 s.member ps + s.first * extent + s.count * extent ≤ device_sectors extent o)
+    (sym (slice_get_inside ps s.member no_volume known)) (omega (arith, most, parts, start))
+
+pub volumes_in_devices : VolumesLieInDevices
+volumes_in_devices items ms g is =
+    All-same (LiesInDevice g) (runs_of_volumes g) (map (run_of_span g.spelt.physicals g.spelt.extent) (all_spans g.spelt.physicals g.spelt.logicals)) (volume_runs_are items ms g is)
+    (All-map (LiesInDevice g) (run_of_span g.spelt.physicals g.spelt.extent) (all_spans g.spelt.physicals g.spelt.logicals)
+    (All-weaker (LiesIn g.spelt.physicals) (λ (s : Span). LiesInDevice g (run_of_span g.spelt.physicals g.spelt.extent s))
+    (in_device g.spelt.physicals g.spelt.extent) (all_spans g.spelt.physicals g.spelt.logicals) (all_laid items ms g is).each))
 
 -- ---- apart
 

@@ -16,7 +16,7 @@ use Rattle.lvm_group.specs.Volumes.{device_sectors, start_from}
 pub no_volume : PhysicalVolume
 no_volume = record { name = []; id = []; size = 0; start = 0; count = 0 }
 
-slice_get_inside : (ps : List PhysicalVolume) (k : ℕ) (d : PhysicalVolume) → k < length ps → slice_get ps k ≡ Some (slice_index_or ps k d)
+pub slice_get_inside : (ps : List PhysicalVolume) (k : ℕ) (d : PhysicalVolume) → k < length ps → slice_get ps k ≡ Some (slice_index_or ps k d)
 slice_get_inside [] k d inside = absurd (omega (arith, inside))
 slice_get_inside (p ∷ ps) zero d inside = refl
 slice_get_inside (p ∷ ps) (suc k) d inside = slice_get_inside ps k d (omega (arith, inside))

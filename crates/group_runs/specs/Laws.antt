@@ -1,5 +1,5 @@
 -- What holds of every group.
-use Rattle.std.specs.Prelude.{◌≢◌, ℕ, ◌<◌, ◌≤◌, List, length, slice_get, slice_index_or, All, AllPairs, Contains}
+use Rattle.std.specs.Prelude.{◌≢◌, ℕ, ◌+◌, ◌<◌, ◌≤◌, List, length, slice_get, slice_index_or, All, AllPairs, Contains}
 use Rattle.disk_base.specs.Run.{AreApart, IsWithin}
 use Rattle.disk_base.specs.declared.run.Run.{Run}
 use Rattle.lvm_group.specs.Answer.{IsGroup}
@@ -14,6 +14,13 @@ abbrev pub VolumesLieInMembers : Type 0
 VolumesLieInMembers =
     (items : List Item) (ms : List Member) (g : Group) (members : List Run) → IsGroup items ms g
     → AreMemberRuns g.members members → All (LiesInMember members) (runs_of_volumes g)
+
+-- none of their runs ends behind what the text says that its physical volume has
+abbrev pub LiesInDevice : Group → ℕ × ℕ × ℕ → Type 0
+LiesInDevice g run = run.1 + run.2 ≤ device_sectors g.spelt.extent (slice_get g.spelt.physicals run.0)
+
+abbrev pub VolumesLieInDevices : Type 0
+VolumesLieInDevices = (items : List Item) (ms : List Member) (g : Group) → IsGroup items ms g → All (LiesInDevice g) (runs_of_volumes g)
 
 -- where the physical volumes lie apart on the disk, so do the runs of all volumes
 abbrev pub VolumesLieApart : Type 0

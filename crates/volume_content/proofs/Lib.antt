@@ -1,3 +1,4 @@
 pub mod Firsts
 pub mod Stays
 pub mod Alike
+pub mod Elsewhere
