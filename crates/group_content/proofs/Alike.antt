@@ -13,7 +13,9 @@ use Rattle.lvm_group.specs.declared.group.Group.{Group}
 use Rattle.lvm_group.specs.declared.spans.Volume.{Volume}
 use Rattle.lvm_group.specs.declared.types.Member.{Member as GroupMember}
 use Rattle.lvm_group.specs.declared.types.Spelt.{Spelt}
-use Rattle.lvm_text.specs.Faults.{IsTextFault, OneTextFault, OneTree, Spells, TreeOrFault}
+use Rattle.lvm_text.proofs.Judging.{no_tree, one_tree}
+use Rattle.lvm_text.proofs.Unique.{one_fault}
+use Rattle.lvm_text.specs.Faults.{IsTextFault, Spells}
 use Rattle.lvm_text.specs.Tree.{items_in}
 use Rattle.lvm_text.specs.declared.fault.TextFault.{TextFault}
 use Rattle.lvm_text.specs.declared.fault.TextFault.TheVariants as texts
@@ -25,7 +27,7 @@ use Rattle.volume_content.specs.declared.content.Why.{Why}
 use Rattle.volume_content.specs.declared.content.Why.TheVariants as why
 use Rattle.group_content.specs.Grouped.{device_from, device_of, first_part, member_runs, members_with, runs_held, volume_places}
 use Rattle.group_runs.specs.Places.{disk_runs}
-use Rattle.group_content.specs.Laws.{AreAlikeGroups, AreAlikeStandings}
+use Rattle.group_content.specs.Laws.{AreAlikeGroups, AreAlikeStandings, OneStanding}
 use Rattle.group_content.specs.Standing.{HasGroupFault, IsGroupOf, IsHolder, IsLaterMember, IsMembership, IsStandingBy, IsStandingOf, MakeNoGroup}
 use Rattle.group_content.specs.declared.types.FoundPartition.{FoundPartition}
 use Rattle.group_content.specs.declared.types.GroupContent.{GroupContent}
@@ -35,10 +37,10 @@ use Rattle.group_content.specs.declared.types.Standing.TheVariants.{Alone, Holde
 
 -- ---- two groups of one text
 
-record AreOneGroup (g h : Group) : Type 0 where
-  spelled : h.spelt ≡ g.spelt
-  members : h.members ≡ g.members
-  volumes : h.volumes ≡ g.volumes
+pub record AreOneGroup (g h : Group) : Type 0 where
+  pub spelled : h.spelt ≡ g.spelt
+  pub members : h.members ≡ g.members
+  pub volumes : h.volumes ≡ g.volumes
 
 one_group_of : (items : List Item) (ms : List GroupMember) (g h : Group) → IsGroup items ms g → IsGroup items ms h → AreOneGroup g h
 one_group_of items ms g h is other =
@@ -49,8 +51,8 @@ one_group_of items ms g h is other =
       volumes = other.volumes ∙ ap (λ (s : Spelt). volumes_with s.physicals s.extent s.logicals) spelled ∙ sym is.volumes;
     }
 
-module _ (one_tree : OneTree) (one_fault : OneTextFault) (tree_or_fault : TreeOrFault) (partitions : List FoundPartition) (text : List ℕ) where
-  one_group : (g h : Group) → IsGroupOf partitions text g → IsGroupOf partitions text h → AreOneGroup g h
+module _ (partitions : List FoundPartition) (text : List ℕ) where
+  pub one_group : (g h : Group) → IsGroupOf partitions text g → IsGroupOf partitions text h → AreOneGroup g h
   one_group g h is other =
       one_group_of (items_in is.tree) (members_with text partitions) g h is.is_group
       (subst (λ (t : Tree). IsGroup (items_in t) (members_with text partitions) h) (one_tree text other.tree is.tree other.spelled is.spelled) other.is_group)
@@ -90,8 +92,8 @@ module _ (one_tree : OneTree) (one_fault : OneTextFault) (tree_or_fault : TreeOr
   no_fault due (groups.Segments n) none known is = cc (sym is ∙ none)
   no_fault due groups.Memory none known is = known refl
 
-  not_both : (g : Group) (cause : Why) → IsGroupOf partitions text g → MakeNoGroup partitions text cause → ⊥
-  not_both g (why.Text fault) is none = tree_or_fault text fault is.tree none.0 none.1 is.spelled
+  pub not_both : (g : Group) (cause : Why) → IsGroupOf partitions text g → MakeNoGroup partitions text cause → ⊥
+  not_both g (why.Text fault) is none = no_tree text fault is.tree none.0 none.1 is.spelled
   not_both g (why.Group fault) is none =
       no_fault (group_fault (items_in is.tree) (members_with text partitions)) fault is.is_group.sound none.known
       (subst (λ (t : Tree). IsGroupFault (items_in t) (members_with text partitions) fault) (one_tree text none.tree is.tree none.spelled is.spelled) none.has)
@@ -118,8 +120,8 @@ module _ (one_tree : OneTree) (one_fault : OneTextFault) (tree_or_fault : TreeOr
 
   causes : (one other : Why) → MakeNoGroup partitions text one → MakeNoGroup partitions text other → other ≡ one
   causes (why.Text fault) (why.Text fault') is is' = ap (λ (f : TextFault). why.Text f) (one_fault text fault' fault is'.0 is.0 is'.1 is.1)
-  causes (why.Text fault) (why.Group fault') is is' = absurd (tree_or_fault text fault is'.tree is.0 is.1 is'.spelled)
-  causes (why.Group fault) (why.Text fault') is is' = absurd (tree_or_fault text fault' is.tree is'.0 is'.1 is.spelled)
+  causes (why.Text fault) (why.Group fault') is is' = absurd (no_tree text fault is'.tree is.0 is.1 is'.spelled)
+  causes (why.Group fault) (why.Text fault') is is' = absurd (no_tree text fault' is.tree is'.0 is'.1 is.spelled)
   causes (why.Group fault) (why.Group fault') is is' = ap (λ (f : GroupFault). why.Group f) (group_faults fault fault' is is')
   causes (why.Text fault) why.Other is is' = absurd is'
   causes (why.Text fault) why.NoGroup is is' = absurd is'
@@ -152,14 +154,13 @@ module _ (one_tree : OneTree) (one_fault : OneTextFault) (tree_or_fault : TreeOr
   by_text number (Unread cause) (Member n) is is' = absurd (not_both is'.group cause is'.is.is_group is)
   by_text number (Unread cause) (Unread cause') is is' = ap (λ (w : Why). Unread w) (causes cause cause' is is')
 
-by_found : OneTree → OneTextFault → TreeOrFault → (partitions : List FoundPartition) (number : ℕ) (found : Found) (one other : Standing)
+by_found : (partitions : List FoundPartition) (number : ℕ) (found : Found) (one other : Standing)
     → IsStandingOf partitions number found one → IsStandingOf partitions number found other → AreAlikeStandings one other
-by_found one_tree one_fault tree_or_fault partitions number (IsPhysical physical) one other is is' =
-    by_text one_tree one_fault tree_or_fault partitions physical.first.text number one other is is'
-by_found one_tree one_fault tree_or_fault partitions number (IsAlone inner) one other is is' =
+by_found partitions number (IsPhysical physical) one other is is' =
+    by_text partitions physical.first.text number one other is is'
+by_found partitions number (IsAlone inner) one other is is' =
     subst (λ (s : Standing). AreAlikeStandings s other) (sym is) is'
 
-pub one_standing : OneTree → OneTextFault → TreeOrFault → (partitions : List FoundPartition) (partition : FoundPartition) (one other : Standing)
-    → IsStandingOf partitions partition.number partition.found one → IsStandingOf partitions partition.number partition.found other → AreAlikeStandings one other
-one_standing one_tree one_fault tree_or_fault partitions partition one other is is' =
-    by_found one_tree one_fault tree_or_fault partitions partition.number partition.found one other is is'
+pub one_standing : OneStanding
+one_standing partitions partition one other is is' =
+    by_found partitions partition.number partition.found one other is is'

@@ -1,4 +1,4 @@
-mod Alike
-mod Owning
+pub mod Alike
+pub mod Owning
 mod Seeing
-mod Splitting
+pub mod Splitting

@@ -57,11 +57,11 @@ pub no_one : FoundPartition
 no_one = record { number = 0; run = run_of 0 0; found = IsAlone (Unread Other) }
 
 pub record IsOwn (partitions : List FoundPartition) (m : Member) : Type 0 where
-  k : ℕ
-  inside : k < length partitions
-  physical : Physical
-  found : (slice_index_or partitions k no_one).found ≡ IsPhysical physical
-  same : m ≡ member_of (slice_index_or partitions k no_one) physical
+  pub k : ℕ
+  pub inside : k < length partitions
+  pub physical : Physical
+  pub found : (slice_index_or partitions k no_one).found ≡ IsPhysical physical
+  pub same : m ≡ member_of (slice_index_or partitions k no_one) physical
 
 behind : (p : FoundPartition) (partitions : List FoundPartition) (m : Member) → IsOwn partitions m → IsOwn (p ∷ partitions) m
 behind p partitions m own = record { k = suc own.k; inside = omega (arith, own.inside); physical = own.physical; found = own.found; same = own.same }
@@ -88,7 +88,7 @@ own_member text (p ∷ partitions) m among = by (own_member text partitions m) p
 numbers_behind : (p : FoundPartition) (partitions : List FoundPartition) → AllPairs HaveTwoNumbers (p ∷ partitions) → AllPairs HaveTwoNumbers partitions
 numbers_behind p partitions two = λ i j d before inside. two (suc i) (suc j) d (omega (arith, before)) (omega (arith, inside))
 
-run_at : (partitions : List FoundPartition) (k : ℕ) → AllPairs HaveTwoNumbers partitions → k < length partitions
+pub run_at : (partitions : List FoundPartition) (k : ℕ) → AllPairs HaveTwoNumbers partitions → k < length partitions
     → run_numbered (slice_index_or partitions k no_one).number partitions ≡ (slice_index_or partitions k no_one).run
 run_at [] k two inside = absurd (omega (arith, inside))
 run_at (p ∷ partitions) zero two inside = ap (λ (b : Bool). if b then p.run else run_numbered p.number partitions) (eq-eqb p.number p.number refl)
@@ -98,7 +98,7 @@ run_at (p ∷ partitions) (suc k) two inside =
     (ne_eqb p.number (slice_index_or partitions k no_one).number (two zero (suc k) no_one (omega arith) inside))
     ∙ run_at partitions k (numbers_behind p partitions two) (omega (arith, inside))
 
-own_run : (partitions : List FoundPartition) (m : Member) → AllPairs HaveTwoNumbers partitions → (own : IsOwn partitions m)
+pub own_run : (partitions : List FoundPartition) (m : Member) → AllPairs HaveTwoNumbers partitions → (own : IsOwn partitions m)
     → run_numbered m.part partitions ≡ (slice_index_or partitions own.k no_one).run
 own_run partitions m two own = ap (λ (x : Member). run_numbered x.part partitions) own.same ∙ run_at partitions own.k two own.inside
 
@@ -133,7 +133,7 @@ turned : (one other : Run) → AreApart one other → AreApart other one
 turned one other (inl before) = inr before
 turned one other (inr before) = inl before
 
-one_member : (partitions : List FoundPartition) (a b : Member) (own : IsOwn partitions a) (other : IsOwn partitions b) → own.k ≡ other.k → a ≡ b
+pub one_member : (partitions : List FoundPartition) (a b : Member) (own : IsOwn partitions a) (other : IsOwn partitions b) → own.k ≡ other.k → a ≡ b
 one_member partitions a b own other e =
     let physicals : own.physical ≡ other.physical =
     ap (physical_in own.physical) (sym own.found ∙ ap (λ (k : ℕ). (slice_index_or partitions k no_one).found) e ∙ other.found) in

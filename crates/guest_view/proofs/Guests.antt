@@ -1,5 +1,5 @@
 -- From the table of a disk to its guest, or to why there is none.
-use Rattle.std.proofs.Common.{◌≡◌, ℕ, ◌^◌, ◌≤◌, ◌⊎◌, inl, inr, List, map, arith, refl, sym, subst, ◌∙◌, ap}
+use Rattle.std.proofs.Common.{◌≡◌, ℕ, ◌^◌, ◌≤◌, ◌⊎◌, inl, inr, List, arith, refl, sym, subst, ap}
 use Rattle.gpt_table.proofs.Tables.{no_fault as no_gpt_fault, one_table_at_most as one_gpt}
 use Rattle.gpt_table.specs.declared.fault.GptFault.{GptFault}
 use Rattle.gpt_table.specs.declared.fault.GptFault.TheVariants as gpt
@@ -10,26 +10,26 @@ use Rattle.mbr_table.specs.declared.fault.MbrFault.TheVariants as mbr
 use Rattle.mbr_table.specs.Mbr.{HasMbrFault}
 use Rattle.guest_view.specs.declared.fault.InspectFault.{InspectFault}
 use Rattle.guest_view.specs.declared.fault.InspectFault.TheVariants.{TooLarge, NoSignature, Entry, Chain, TooMany, NoHeader, Shape, Overlap, Device, Memory}
-use Rattle.guest_view.specs.declared.guest.GuestPart.{GuestPart}
+use Rattle.guest_view.specs.Contents.{HaveContents}
 use Rattle.guest_view.specs.declared.table.Table.{Table}
 use Rattle.guest_view.specs.declared.table.Table.TheVariants.{Mbr, Gpt}
-use Rattle.guest_view.specs.Guests.{GuestView, HasFaultOfGpt, HasOverlap, HasOwnFault, IsGuest, IsLeftToGpt, IsNoGuest, IsTableOf, OneGuest, fault_of_gpt, fault_of_mbr, guest_part}
+use Rattle.guest_view.specs.Guests.{GuestView, HasFaultOfGpt, HasOverlap, HasOwnFault, IsGuest, IsLeftToGpt, IsNoGuest, IsTableOf, fault_of_gpt, fault_of_mbr}
 use Rattle.guest_view.specs.Partitions.{AreFirstClash, HasNoClash, partitions_of}
-use Rattle.guest_view.specs.inside.Sound.{IsGuestOf, IsNoGuestBy}
+use Rattle.guest_view.specs.inside.Sound.{IsGuestBy, IsNoGuestBy}
 
 -- what holds of a disk by its size and its bytes holds of one with the same
 pub of_same_disk : (P : ℕ → List ℕ → Type 0) (n n' : ℕ) (image image' : List ℕ) → n' ≡ n → image' ≡ image → P n' image' → P n image
 of_same_disk P n n' image image' size bytes is = subst (λ (i : List ℕ). P n i) bytes (subst (λ (k : ℕ). P k image') size is)
 
 -- the guest of the table that a disk has
-pub guest_is : (sectors : ℕ) (image : List ℕ) (table : Table) (guest : GuestView) → sectors ≤ 2 ^ 31 → IsTableOf sectors image table → IsGuestOf sectors table guest
-    → IsGuest sectors image guest
-guest_is sectors image table guest small is of = record {
-  sectors_are = of.sectors_are;
+pub guest_is : (sectors : ℕ) (image : List ℕ) (table : Table) (guest : GuestView) → sectors ≤ 2 ^ 31 → IsTableOf sectors image table → guest.sectors ≡ sectors
+    → IsGuestBy sectors image table guest → IsGuest sectors image guest
+guest_is sectors image table guest small is same of = record {
+  sectors_are = same;
   small = small;
   table = subst (IsTableOf sectors image) (sym of.table_is) is;
   apart = subst (λ (t : Table). HasNoClash (partitions_of t)) (sym of.table_is) of.apart;
-  parts = of.parts ∙ ap (λ (t : Table). map guest_part (partitions_of t)) (sym of.table_is);
+  contents = subst (λ (t : Table). HaveContents image (partitions_of t) guest.parts) (sym of.table_is) of.contents;
 }
 
 -- why the table that a disk has is no guest's
@@ -65,19 +65,11 @@ gpt_fault_is sectors image gpt.Device small left has = tt
 gpt_fault_is sectors image gpt.Memory small left has = tt
 
 -- a disk has one table
-one_table : (sectors : ℕ) (image : List ℕ) (a b : Table) → IsTableOf sectors image a → IsTableOf sectors image b → a ≡ b
+pub one_table : (sectors : ℕ) (image : List ℕ) (a b : Table) → IsTableOf sectors image a → IsTableOf sectors image b → a ≡ b
 one_table sectors image (Mbr a) (Mbr b) a-is b-is = ap Mbr (one_mbr sectors image a b a-is.1 b-is.1)
 one_table sectors image (Gpt a) (Gpt b) a-is b-is = ap Gpt (one_gpt sectors image a b a-is.1 b-is.1)
 one_table sectors image (Mbr a) (Gpt b) a-is b-is = absurd (a-is.0 b-is.0)
 one_table sectors image (Gpt a) (Mbr b) a-is b-is = absurd (b-is.0 a-is.0)
-
-same_guest : (sectors : ℕ) (image : List ℕ) (one other : GuestView) → IsGuest sectors image one → IsGuest sectors image other → other ≡ one
-same_guest sectors image one other is is' =
-    let table : other.table ≡ one.table = one_table sectors image other.table one.table is'.table is.table in
-    let size : other.sectors ≡ one.sectors = is'.sectors_are ∙ sym is.sectors_are in
-    let parts : other.parts ≡ one.parts = is'.parts ∙ ap (λ (t : Table). map guest_part (partitions_of t)) table ∙ sym is.parts in
-    let made : ℕ → Table → List GuestPart → GuestView = λ n t p. record { sectors = n; table = t; parts = p } in
-    ap (λ (n : ℕ). made n other.table other.parts) size ∙ ap (λ (t : Table). made one.sectors t other.parts) table ∙ ap (made one.sectors one.table) parts
 
 -- a table leaves no fault of its kind
 no_own_fault : (sectors : ℕ) (image : List ℕ) (table : Table) (fault : MbrFault) → IsTableOf sectors image table → HasOwnFault sectors image fault
@@ -107,7 +99,7 @@ neither_gpt fault fault' not_device not_memory (inl is) = absurd (not_device is)
 neither_gpt fault fault' not_device not_memory (inr is) = absurd (not_memory is)
 
 -- a guest leaves no reason against the disk
-no_reason : (sectors : ℕ) (image : List ℕ) (guest : GuestView) (fault : InspectFault) → IsGuest sectors image guest → IsNoGuest sectors image fault
+pub no_reason : (sectors : ℕ) (image : List ℕ) (guest : GuestView) (fault : InspectFault) → IsGuest sectors image guest → IsNoGuest sectors image fault
     → (fault ≡ Device) ⊎ (fault ≡ Memory)
 no_reason sectors image guest (TooLarge n) is why = absurd (omega (arith, is.small, why.1))
 no_reason sectors image guest NoSignature is why =
@@ -127,6 +119,3 @@ no_reason sectors image guest (Shape count size) is why =
 no_reason sectors image guest (Overlap a b) is why = absurd (no_overlap sectors image guest a b is why)
 no_reason sectors image guest Device is why = inl refl
 no_reason sectors image guest Memory is why = inr refl
-
-pub one_guest : OneGuest
-one_guest sectors image one is = (λ other is'. same_guest sectors image one other is is', λ fault why. no_reason sectors image one fault is why)

@@ -20,11 +20,13 @@ use Rattle.mbr_table.specs.Slot.{empty_slot, holds_extended, is_bad_slot, is_ext
 use Rattle.guest_view.specs.declared.partition.Partition.{Partition}
 use Rattle.guest_view.specs.declared.table.Table.{Table}
 use Rattle.guest_view.specs.declared.table.Table.TheVariants.{Mbr, Gpt}
-use Rattle.guest_view.specs.Guests.{IsSoundTable, guest_part}
-use Rattle.guest_view.specs.inside.Sound.{IsWhole}
+use Rattle.guest_view.specs.Guests.{IsSoundTable, kind_of}
 use Rattle.guest_view.specs.Partitions.{HasNoClash, IsReachable, entry_partition, logical_partition, named_from, or_none, partitions_of, slot_partition, used_partition}
 use Rattle.guest_view.proofs.Named.{IsNamedBy, named_each, named_pairs, pairs_append}
-use Rattle.guest_view.proofs.Sources.{ByRole, IsKnown, Rises, StandsIn, is_source, lie_inside}
+use Rattle.guest_view.specs.inside.Sound.{EndsOn, LieBeside, Rises}
+use Rattle.guest_view.proofs.Beside.{lie_beside}
+use Rattle.guest_view.proofs.Sources.{ByRole, IsKnown, StandsIn, bare, is_source}
+use Rattle.layout_plan.specs.Source.{IsSource}
 
 -- the first slot that passes a test is found
 find_first : (p : Slot → Bool) (slots : List Slot) (k : ℕ) (d : Slot) → k < length slots → list_any p (take k slots) ≡ false → p (slice_index_or slots k d) ≡ true
@@ -108,7 +110,7 @@ known_logical sectors slots e logicals sound found within p named =
       behind = omega (arith, bounds.0, inside.record_inside, inside.behind_record);
       some = used_some logical.slot inside.used;
       ends = omega (arith, bounds.1, inside.ends_inside);
-      by_role = (e, found, omega (arith, inside.record_inside, inside.behind_record));
+      by_role = (e, found, omega (arith, inside.record_inside, inside.behind_record), inside.ends_inside);
     } in
     subst (IsKnown kinds.Mbr sectors slots) is known
 
@@ -172,11 +174,11 @@ stands_here : (first : ℕ) (slot : Slot) (slots : List Slot) (rest : List Parti
     → StandsIn (named_from slot_partition first (slot ∷ slots) ++ rest) slot
 stands_here first slot slots rest used extended =
     let Of : Bool → Type 0 = λ b. StandsIn (or_none (if b then Some (used_partition first slot) else None) (named_from slot_partition (first + 1) slots) ++ rest) slot in
-    subst Of (sym used) (record { place = 0; within = omega arith; role = ap (λ b. if b then Extended else InSlot) extended; start = refl })
+    subst Of (sym used) (record { place = 0; within = omega arith; role = ap (λ b. if b then Extended else InSlot) extended; start = refl; count = refl })
 
 stands_later : (o : Option Partition) (ps rest : List Partition) (e : Slot) → StandsIn (ps ++ rest) e → StandsIn (or_none o ps ++ rest) e
 stands_later None ps rest e is = is
-stands_later (Some p) ps rest e is = record { place = suc is.place; within = omega (arith, is.within); role = is.role; start = is.start }
+stands_later (Some p) ps rest e is = record { place = suc is.place; within = omega (arith, is.within); role = is.role; start = is.start; count = is.count }
 
 found_stands : (first : ℕ) (slots : List Slot) (rest : List Partition) (e : Slot) → find holds_extended slots ≡ Some e → StandsIn (named_from slot_partition first slots ++ rest) e
 found_stands first [] rest e is = absurd cc
@@ -231,30 +233,30 @@ rising_of_gpt entries =
 none_extended : (ps : List Partition) (e : Slot) → find holds_extended [] ≡ Some e → StandsIn ps e
 none_extended ps e is = absurd cc
 
--- the parts of a sound table that has no clash
-pub whole : (sectors : ℕ) (table : Table) → IsSoundTable sectors table → HasNoClash (partitions_of table) → IsWhole sectors table (map guest_part (partitions_of table))
-whole sectors (Mbr table) sound apart =
-    let known = known_of_mbr sectors table.slots table.logicals sound.entries.0 sound.entries.1 in
-    let rising = rising_of_mbr table.slots table.logicals sound.entries.0.four in
-    let stands = found_stands 1 table.slots (named_from logical_partition 5 table.logicals) in
-    record {
-      sound = sound;
-      apart = apart;
-      parts_are = refl;
-      source = is_source kinds.Mbr sectors table.slots (partitions_of (Mbr table)) sound.few known rising apart stands;
-      inside = lie_inside kinds.Mbr sectors table.slots (partitions_of (Mbr table)) sound.few known rising apart stands;
-    }
-whole sectors (Gpt table) sound apart =
-    let known = known_of_gpt sectors table.entries sound.entries in
-    let rising = rising_of_gpt table.entries in
-    let stands = none_extended (partitions_of (Gpt table)) in
-    record {
-      sound = sound;
-      apart = apart;
-      parts_are = refl;
-      source = is_source kinds.Gpt sectors [] (partitions_of (Gpt table)) sound.few known rising apart stands;
-      inside = lie_inside kinds.Gpt sectors [] (partitions_of (Gpt table)) sound.few known rising apart stands;
-    }
+-- the partitions of a sound table that has no clash: a plan can take them, they lie on the disk, those that aren't extended
+-- apart, and their numbers rise
+pub record AreSource (kind : Kind) (sectors : ℕ) (ps : List Partition) : Type 0 where
+  pub source : IsSource kind (map bare ps)
+  pub inside : All (EndsOn sectors) ps
+  pub apart : AllPairs LieBeside ps
+  pub rising : AllPairs Rises ps
+
+source_of : (kind : Kind) (sectors : ℕ) (slots : List Slot) (ps : List Partition) → sectors ≤ 2 ^ 31 → All (IsKnown kind sectors slots) ps → AllPairs Rises ps
+    → HasNoClash ps → ((e : Slot) → find holds_extended slots ≡ Some e → StandsIn ps e) → AreSource kind sectors ps
+source_of kind sectors slots ps few known rising apart stands = record {
+  source = is_source kind sectors slots ps few known rising apart stands;
+  inside = All-weaker (IsKnown kind sectors slots) (EndsOn sectors) (λ p is. is.ends) ps known;
+  apart = lie_beside kind sectors slots ps known apart stands;
+  rising = rising;
+}
+
+pub are_source : (sectors : ℕ) (table : Table) → IsSoundTable sectors table → HasNoClash (partitions_of table) → AreSource (kind_of table) sectors (partitions_of table)
+are_source sectors (Mbr table) sound apart =
+    source_of kinds.Mbr sectors table.slots (partitions_of (Mbr table)) sound.few (known_of_mbr sectors table.slots table.logicals sound.entries.0 sound.entries.1)
+    (rising_of_mbr table.slots table.logicals sound.entries.0.four) apart (found_stands 1 table.slots (named_from logical_partition 5 table.logicals))
+are_source sectors (Gpt table) sound apart =
+    source_of kinds.Gpt sectors [] (partitions_of (Gpt table)) sound.few (known_of_gpt sectors table.entries sound.entries) (rising_of_gpt table.entries) apart
+    (none_extended (partitions_of (Gpt table)))
 
 reachable_by : (kind : Kind) (sectors : ℕ) (slots : List Slot) (p : Partition) → sectors ≤ 2 ^ 31 → IsKnown kind sectors slots p → IsReachable p
 reachable_by kind sectors slots p few known = omega (arith, few, known.ends)

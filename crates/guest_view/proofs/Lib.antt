@@ -1,5 +1,10 @@
+pub mod Alike
+pub mod Bare
+pub mod Beside
 pub mod Entries
 pub mod Guests
+pub mod Merging
 pub mod Known
 pub mod Named
 pub mod Sources
+pub mod Staying

@@ -1,8 +1,6 @@
--- What is printed of a disk that is no guest, and of a content that isn't read.
+-- What is printed of a disk that is no guest.
 use Rattle.std.specs.Prelude.{ℕ, List, ◌++◌, codes}
 use Rattle.std.specs.Fmt.{decimal}
-use Rattle.guest_view.specs.declared.content.Why.{Why}
-use Rattle.guest_view.specs.declared.content.Why.TheVariants.{Other}
 use Rattle.guest_view.specs.declared.fault.InspectFault.{InspectFault}
 use Rattle.guest_view.specs.declared.fault.InspectFault.TheVariants.{TooLarge, NoSignature, Entry, Chain, TooMany, NoHeader, Shape, Overlap, Device, Memory}
 
@@ -17,6 +15,3 @@ inspect_text (Shape count size) = codes "Shape count=" ++ (decimal count ++ (cod
 inspect_text (Overlap a b) = codes "Overlap a=" ++ (decimal a ++ (codes " b=" ++ decimal b))
 inspect_text Device = codes "Device"
 inspect_text Memory = codes "Memory"
-
-abbrev pub why_text : Why → List ℕ
-why_text Other = codes "Other"

@@ -1,27 +1,23 @@
 -- The guest of a disk: its table, and its partitions by number with what they hold; and why a disk is none.
-use Rattle.std.specs.Prelude.{◌≡◌, ℕ, ◌+◌, ◌^◌, ◌<◌, ◌≤◌, ◌⊎◌, List, map, All}
+use Rattle.std.specs.Prelude.{◌≡◌, ℕ, ◌+◌, ◌^◌, ◌<◌, ◌≤◌, ◌⊎◌, List, All}
 use Rattle.disk_base.specs.Image.{sector}
 use Rattle.gpt_table.specs.declared.fault.GptFault.{GptFault}
 use Rattle.gpt_table.specs.declared.fault.GptFault.TheVariants as gpt
 use Rattle.gpt_table.specs.Gpt.{AreInside, HasGptFault, IsGptTable}
 use Rattle.layout_plan.specs.declared.part.Kind.{Kind}
 use Rattle.layout_plan.specs.declared.part.Kind.TheVariants as kinds
-use Rattle.layout_plan.specs.declared.part.Part.{Part}
-use Rattle.layout_plan.specs.declared.part.Role.{Role}
-use Rattle.layout_plan.specs.declared.part.Role.TheVariants as roles
+use Rattle.volume_content.specs.declared.fault.ContentFault.{ContentFault}
+use Rattle.volume_content.specs.declared.fault.ContentFault.TheVariants as content
 use Rattle.mbr_table.specs.declared.fault.MbrFault.{MbrFault}
 use Rattle.mbr_table.specs.declared.fault.MbrFault.TheVariants as mbr
 use Rattle.mbr_table.specs.Mbr.{AreSound, AreWithin, HasMbrFault, IsMbrTable, IsProtective}
 use Rattle.layout_plan.specs.Tables.{floor_of}
-use Rattle.guest_view.specs.declared.content.Content.{Content}
-use Rattle.guest_view.specs.declared.content.Content.TheVariants as contents
-use Rattle.guest_view.specs.declared.content.Why.TheVariants.{Other}
 use Rattle.guest_view.specs.declared.fault.InspectFault.{InspectFault}
 use Rattle.guest_view.specs.declared.fault.InspectFault.TheVariants.{TooLarge, NoSignature, Entry, Chain, TooMany, NoHeader, Shape, Overlap, Device, Memory}
 use Rattle.guest_view.specs.declared.guest.GuestPart.{GuestPart}
-use Rattle.guest_view.specs.declared.partition.Partition.{Partition}
 use Rattle.guest_view.specs.declared.table.Table.{Table}
 use Rattle.guest_view.specs.declared.table.Table.TheVariants.{Mbr, Gpt}
+use Rattle.guest_view.specs.Contents.{HaveContents}
 use Rattle.guest_view.specs.Partitions.{AreFirstClash, HasNoClash, partitions_of}
 
 -- a guest as contracts see it
@@ -55,31 +51,6 @@ pub record IsSoundTable (sectors : ℕ) (table : Table) : Type 0 where
   pub room : floor_of (kind_of table) ≤ sectors
   pub entries : HasSoundEntries sectors table
 
--- what a partition of that role holds
-abbrev pub content_by : Role → Content
-content_by roles.Extended = contents.Extended
-content_by roles.Slot = contents.Unread Other
-content_by roles.Logical = contents.Unread Other
-
--- a partition with what it holds
-abbrev pub guest_part : Partition → GuestPart
-guest_part partition = record {
-  number = partition.number;
-  role = partition.role;
-  start = partition.start;
-  count = partition.count;
-  content = content_by partition.role;
-}
-
--- how many of its sectors a content needs: nothing is known of one that isn't read
-abbrev pub needed_sectors : Content → ℕ → ℕ
-needed_sectors contents.Extended count = count
-needed_sectors (contents.Unread why) count = count
-
--- a partition as a plan takes it
-abbrev pub planned_part : GuestPart → Part
-planned_part part = record { number = part.number; role = part.role; start = part.start; count = part.count; content = needed_sectors part.content part.count }
-
 -- each of the partitions ends on a disk of that many sectors
 abbrev pub EndOnDisk : ℕ → List GuestPart → Type 0
 EndOnDisk sectors parts = All (λ (part : GuestPart). part.start + part.count ≤ sectors) parts
@@ -90,7 +61,7 @@ pub record IsGuest (sectors : ℕ) (image : List ℕ) (guest : GuestView) : Type
   pub small : sectors ≤ 2 ^ 31
   pub table : IsTableOf sectors image guest.table
   pub apart : HasNoClash (partitions_of guest.table)
-  pub parts : guest.parts ≡ map guest_part (partitions_of guest.table)
+  pub contents : HaveContents image (partitions_of guest.table) guest.parts
 
 -- a fault of the table that sector 0 holds, on a disk that isn't left to a GPT
 pub record HasOwnFault (sectors : ℕ) (image : List ℕ) (fault : MbrFault) : Type 0 where
@@ -142,9 +113,7 @@ fault_of_gpt (gpt.Entry number) = Entry number
 fault_of_gpt gpt.Device = Device
 fault_of_gpt gpt.Memory = Memory
 
--- a disk has at most one guest, and where it has one there is no reason against it
-abbrev pub OneGuest : Type 0
-OneGuest =
-    (sectors : ℕ) (image : List ℕ) (one : GuestView) → IsGuest sectors image one
-    → ((other : GuestView) → IsGuest sectors image other → other ≡ one)
-    × ((fault : InspectFault) → IsNoGuest sectors image fault → (fault ≡ Device) ⊎ (fault ≡ Memory))
+-- what a fault of contents says of the disk
+abbrev pub fault_of_content : ContentFault → InspectFault
+fault_of_content content.Device = Device
+fault_of_content content.Memory = Memory

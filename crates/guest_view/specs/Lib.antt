@@ -1,4 +1,6 @@
+pub mod Contents
 pub mod FaultTexts
 pub mod Guests
+pub mod Laws
 pub mod Partitions
 pub mod inside

@@ -1,6 +1,6 @@
 //! Why a disk is no guest.
 ghost use Rattle.std.specs.Prelude.{◌≡◌};
-ghost use Rattle.guest_view.specs.Guests.{fault_of_gpt, fault_of_mbr};
+ghost use Rattle.guest_view.specs.Guests.{fault_of_content, fault_of_gpt, fault_of_mbr};
 ghost use Rattle.guest_view.specs.declared.fault.InspectFault.TheVariants.{Device, Memory};
 
 use disk_base::Failed;
@@ -8,6 +8,7 @@ use gpt_table::GptFault;
 use mbr_table::MbrFault;
 use std::alloc::AllocError;
 use std::fmt;
+use volume_content::ContentFault;
 
 /// Why a disk is no guest. Numbers of slots, entries and partitions count from 1; `at` is a sector of 512 bytes.
 #[derive(Clone, Copy, Debug, PartialEq, Eq)]
@@ -59,6 +60,17 @@ impl InspectFault {
             GptFault::Entry { number } => InspectFault::Entry { number },
             GptFault::Device => InspectFault::Device,
             GptFault::Memory => InspectFault::Memory,
+        }
+    }
+}
+
+impl From<ContentFault> for InspectFault {
+    ghost from_gives = { λ fault told. told ≡ fault_of_content fault };
+
+    fn from(fault: ContentFault) -> InspectFault {
+        match fault {
+            ContentFault::Device => InspectFault::Device,
+            ContentFault::Memory => InspectFault::Memory,
         }
     }
 }

@@ -2,35 +2,36 @@
 ghost use Rattle.std.specs.Prelude.{◌≡◌, ◌^◌, ◌<◌, ◌≤◌, IsTrue, IfOk, IfErr, IsErrOf, Err, true, ◌↔◌};
 ghost use Rattle.disk_base.specs.Faults.{Rose};
 ghost use Rattle.guest_view.specs.declared.fault.InspectFault.TheVariants.{Device, TooLarge};
-ghost use Rattle.guest_view.specs.Guests.{IsGuest, IsLeftToGpt, IsNoGuest, IsSoundTable, IsTableOf, OneGuest};
-ghost use Rattle.guest_view.specs.inside.Sound.{IsGuestOf, IsNoGuestBy};
+ghost use Rattle.guest_view.specs.Guests.{IsGuest, IsLeftToGpt, IsNoGuest, IsSoundTable, IsTableOf};
+ghost use Rattle.guest_view.specs.inside.Sound.{ArePartitionsOf, IsGuestBy, IsNoGuestBy};
 
 use crate::clash::first_clash;
 use crate::fault::InspectFault;
+use crate::finding::contents;
 use crate::guest::Guest;
-use crate::partitions::{partitions, parts};
+use crate::partition::Partition;
+use crate::partitions::partitions;
 use crate::table::Table;
 use disk_base::{Blocks, Failed, MOST_SECTORS, SECTOR};
 use gpt_table::read_gpt;
 use mbr_table::{is_protective, read_mbr};
 use std::alloc::Global;
 
-// The guest of a table, or the first two of its partitions that clash.
-fn guest_of(alloc: Global, sectors: u64, table: Table) -> Result<Guest, InspectFault>
-    requires { IsSoundTable sectors table }
-    ensures guest { IfOk result (IsGuestOf sectors table) }
-    ensures fault { IfErr result (IsNoGuestBy table) }
+// The partitions of a table, or the first two of them that clash.
+fn apart_partitions(
+    alloc: Global,
+    sectors: u64,
+    table: &Table,
+) -> Result<Vec<Partition>, InspectFault>
+    requires { IsSoundTable sectors table.now }
+    ensures partitions { IfOk result (λ partitions. ArePartitionsOf table.now partitions.items) }
+    ensures fault { IfErr result (IsNoGuestBy table.now) }
 {
-    let partitions = partitions(alloc, &table, sectors)?;
+    let partitions = partitions(alloc, table, sectors)?;
     if let Some((a, b)) = first_clash(&partitions) {
         return Err(InspectFault::Overlap { a, b });
     }
-    let parts = parts(alloc, &partitions)?;
-    Ok(Guest {
-        sectors,
-        table,
-        parts,
-    })
+    Ok(partitions)
 }
 
 // Whether sector 0 leaves the disk to a GPT.
@@ -96,8 +97,32 @@ fn read_table<B: Blocks>(alloc: Global, disk: &mut B) -> Result<Table, InspectFa
     }
 }
 
-/// What a disk is, in sectors of 512 bytes: its table is read, and its partitions are held against each other.
-/// After `Device` and `Memory` nothing is known of the disk.
+// The guest of a table, whose partitions are these.
+fn guest_of<B: Blocks>(
+    alloc: Global,
+    disk: &mut B,
+    table: Table,
+    partitions: &[Partition],
+) -> Result<Guest, InspectFault>
+    requires sound { IsSoundTable (B.size disk.old) table }
+    requires partitions { ArePartitionsOf table partitions.now }
+    ensures read { B.only_read disk.old disk.new }
+    ensures guest { IsTrue B.tells → IfOk result (IsGuestBy (B.size disk.old) (B.image disk.old) table) }
+    ensures sectors { IfOk result (λ guest. guest.sectors ≡ B.size disk.old) }
+    ensures fault { IsTrue B.tells → IfErr result (IsNoGuest (B.size disk.old) (B.image disk.old)) }
+    ensures device { IsErrOf result Device → Rose (B.faults disk.old) (B.faults disk.new) }
+{
+    let sectors = disk.sectors();
+    let parts = contents(alloc, disk, partitions)?;
+    Ok(Guest {
+        sectors,
+        table,
+        parts,
+    })
+}
+
+/// What a disk is, in sectors of 512 bytes: its table is read, its partitions are held against each other, and what they
+/// hold is read. After `Device` and `Memory` nothing is known of the disk.
 pub fn inspect<B: Blocks>(alloc: Global, disk: &mut B) -> Result<Guest, InspectFault>
     ensures read { B.only_read disk.old disk.new }
     ensures guest { IsTrue B.tells → IfOk result (λ guest. IsGuest (B.size disk.old) (B.image disk.old) guest) }
@@ -111,11 +136,9 @@ pub fn inspect<B: Blocks>(alloc: Global, disk: &mut B) -> Result<Guest, InspectF
         return Err(InspectFault::TooLarge { sectors });
     }
     let table = read_table(alloc, disk)?;
-    let guest = guest_of(alloc, sectors, table)?;
-    Ok(guest)
+    let partitions = match apart_partitions(alloc, sectors, &table) {
+        Ok(partitions) => partitions,
+        Err(fault) => return Err(fault),
+    };
+    guest_of(alloc, disk, table, partitions.as_slice())
 }
-
-/// The law that a disk has at most one guest, and no reason against it where it has one. A call does nothing.
-pub fn one_guest()
-    ensures { OneGuest }
-{}

@@ -1,14 +1,12 @@
 //! The partitions that a table names.
 ghost use Rattle.std.specs.Option.{option_to_list};
-ghost use Rattle.std.specs.Prelude.{◌≡◌, ◌-◌, ◌≤◌, ◌++◌, length, map, IfOk, OnOk, Some, slice_index_or, None};
+ghost use Rattle.std.specs.Prelude.{◌≡◌, ◌-◌, ◌≤◌, ◌++◌, length, IfOk, OnOk, Some, slice_index_or, None};
 ghost use Rattle.gpt_table.specs.Gpt.{AreInside};
-ghost use Rattle.guest_view.specs.Guests.{IsSoundTable, guest_part};
+ghost use Rattle.guest_view.specs.Guests.{IsSoundTable};
 ghost use Rattle.guest_view.specs.Partitions.{entry_partition, logical_partition, named_from, partitions_of, slot_partition};
 ghost use Rattle.guest_view.specs.declared.table.Table.TheVariants.{Mbr as OfMbr};
 ghost use Rattle.mbr_table.specs.Mbr.{AreWithin};
 
-use crate::content::Content;
-use crate::guest::GuestPart;
 use crate::partition::Partition;
 use crate::table::Table;
 use gpt_table::{Entry, Gpt};
@@ -150,35 +148,4 @@ pub(crate) fn partitions(
         Table::Gpt(gpt) => add_entries(&mut partitions, gpt, sectors)?,
     }
     Ok(partitions)
-}
-
-// A partition with what it holds.
-fn with_content(partition: &Partition) -> GuestPart
-    ensures { result ≡ guest_part partition.now }
-{
-    let Partition {
-        number,
-        role,
-        start,
-        count,
-        ..
-    } = *partition;
-    GuestPart {
-        number,
-        role,
-        start,
-        count,
-        content: Content::of(role),
-    }
-}
-
-/// The partitions with what they hold.
-pub(crate) fn parts(alloc: Global, partitions: &[Partition]) -> Result<Vec<GuestPart>, AllocError>
-    ensures { IfOk result (λ parts. parts.items ≡ map guest_part partitions.now) }
-{
-    let mut parts = Vec::new(alloc);
-    for partition in partitions {
-        parts.push(with_content(partition))?;
-    }
-    Ok(parts)
 }

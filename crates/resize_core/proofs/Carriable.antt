@@ -7,7 +7,8 @@ use Rattle.std.proofs.lemmas.List.Sums.{fold-append}
 use Rattle.std.proofs.Common.{◌≡◌, ℕ, ◌+◌, ◌^◌, ◌<◌, ◌≤◌, ◌⊎◌, inl, inr, List, [], ◌∷◌, ◌++◌, length, map, fold, min, arith, refl, sym, ap, subst, Bool, true, false, ◌||◌, if◌then◌else◌, ◌==◌, slice_index_or, All, AllPairs, suc, Option, Some, None}
 use Rattle.guest_view.specs.declared.content.Content.TheVariants.{Extended as OuterContent}
 use Rattle.guest_view.specs.declared.guest.GuestPart.{GuestPart}
-use Rattle.guest_view.specs.Guests.{EndOnDisk, GuestView, kind_of, planned_part}
+use Rattle.guest_view.specs.Guests.{EndOnDisk, GuestView, kind_of}
+use Rattle.guest_view.specs.Contents.{planned_part}
 use Rattle.guest_view.proofs.Named.{pairs_append}
 use Rattle.layout_plan.specs.declared.part.Fate.{Fate}
 use Rattle.layout_plan.specs.declared.part.Fate.TheVariants.{Kept, Resized, Ignored, Extended as Outer}
@@ -54,7 +55,7 @@ abbrev pub nowhere : Placed
 nowhere = record { from = 0; number = 0; ebr = 0; start = 0; count = 0; fate = Kept }
 
 no_part : GuestPart
-no_part = record { number = 0; role = TheSlot; start = 0; count = 0; content = OuterContent }
+no_part = record { number = 0; role = TheSlot; start = 0; count = 0; ebr = 0; content = OuterContent }
 
 -- the first sector that a partition takes is its start, or comes before it
 first_before : (q : Placed) → q.ebr < q.start → first_of q ≤ q.start

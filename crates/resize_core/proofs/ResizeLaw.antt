@@ -1,13 +1,17 @@
 -- At most one status is due of a job: each refusal stands where the judging stops.
-use Rattle.std.proofs.Common.{◌≡◌, ℕ, List, subst, refl, suc, zero, inl, inr, Option, None, Some}
+use Rattle.std.proofs.Common.{◌≡◌, ℕ, List, subst, refl, sym, ap, ◌∙◌, true, false, suc, zero, inl, inr, Option, None, Some}
+use Rattle.std.proofs.lemmas.Bool.{false≢true}
 use Rattle.disk_base.specs.Image.{sectors_of}
 use Rattle.guest_view.specs.declared.fault.InspectFault.{InspectFault}
 use Rattle.guest_view.specs.declared.fault.InspectFault.TheVariants as guests
 use Rattle.guest_view.specs.Guests.{GuestView, IsNoGuest, kind_of}
-use Rattle.guest_view.proofs.Guests.{one_guest}
+use Rattle.guest_view.proofs.Alike.{one_guest}
+use Rattle.guest_view.specs.Laws.{AreAlikeGuests}
+use Rattle.guest_view.specs.declared.table.Table.{Table}
 use Rattle.layout_plan.specs.declared.fault.NoPlan.{NoPlan}
 use Rattle.layout_plan.specs.declared.fault.NoPlan.TheVariants.{TooSmall, TooLarge, NoSuchPart, NamedTwice, Extended, Empty, WouldCut, DoesNotFit, NoSurplus, NoDeficit, Memory as TooLittleMemory}
-use Rattle.layout_plan.specs.Plans.{Plan}
+use Rattle.layout_plan.specs.declared.part.Part.{Part}
+use Rattle.layout_plan.specs.Plans.{IsPlan, Plan}
 use Rattle.layout_plan.proofs.Unique.{one_planned, only_memory}
 use Rattle.run_end.specs.declared.end.Refusal.{Refusal}
 use Rattle.run_end.specs.declared.end.Refusal.TheVariants.{Usage, NotYet, Source, Plan as Unplanned, Memory}
@@ -18,34 +22,68 @@ use Rattle.run_end.specs.Ending.{Due, IsLawful, due_status}
 use Rattle.run_end.proofs.Steps.{StopsAt, by_steps}
 use Rattle.target_table.specs.Planned.{parts_to_plan}
 use Rattle.words.specs.declared.job.ResizeJob.{ResizeJob}
-use Rattle.resize_core.specs.Resizing.{HasNoPlanFor, HasPlanFor, HasWork, IsBadSource, IsGuestIn, IsNoSource, IsPlanFor, IsStuck, IsWithoutPlan, resize_of}
+use Rattle.words.specs.declared.job.Unknown.TheVariants.{Error}
+use Rattle.resize_core.proofs.AlikeGrowth.{same_growth, same_planned, stuck_or_none}
+use Rattle.resize_core.specs.Growth.{first_stuck, has_growth}
+use Rattle.resize_core.specs.Resizing.{HasGrowthFor, HasNoPlanFor, HasPlanFor, HasWork, IsBadSource, IsGuestIn, IsNoSource, IsPlanFor, IsStuck, IsWithoutPlan, resize_of}
 
 -- a disk has one guest, and a job one plan for it
-same_guest : (image : List ℕ) (one other : GuestView) → IsGuestIn image one → IsGuestIn image other → other ≡ one
+same_guest : (image : List ℕ) (one other : GuestView) → IsGuestIn image one → IsGuestIn image other → AreAlikeGuests one other
 same_guest image one other is is' = (one_guest (sectors_of image) image one is).0 other is'
+
+plan_again : (job : ResizeJob) (sectors : ℕ) (plan : Plan) (one other : GuestView) → AreAlikeGuests one other → IsPlanFor job other sectors plan → IsPlanFor job one sectors plan
+plan_again job sectors plan one other alike is =
+    let Of : Table → Type 0 = λ table. IsPlan (kind_of table) (parts_to_plan other) job.wishes job.layout sectors plan in
+    let With : List Part → Type 0 = λ parts. IsPlan (kind_of one.table) parts job.wishes job.layout sectors plan in
+    subst With (same_planned one.parts other.parts alike.parts) (subst Of alike.table is)
 
 same_plan : (job : ResizeJob) (guest : GuestView) (sectors : ℕ) (one other : Plan) → IsPlanFor job guest sectors one → IsPlanFor job guest sectors other → other ≡ one
 same_plan job guest sectors one other is is' = one_planned (kind_of guest.table) (parts_to_plan guest) job.wishes job.layout sectors one other is is'
 
--- how far the judging comes: the guest, the plan, the contents that can't grow
+-- a job has one plan for a source and a target
+record IsAgain (one other : GuestView) (first second : Plan) : Type 0 where
+  guest : AreAlikeGuests one other
+  plan : second ≡ first
+
+again : (job : ResizeJob) (source target : List ℕ) (one other : GuestView) (plan plan' : Plan) → HasPlanFor job source target one plan → HasPlanFor job source target other plan'
+    → IsAgain one other plan plan'
+again job source target one other plan plan' is is' =
+    let guest : AreAlikeGuests one other = same_guest source one other is.is_guest is'.is_guest in
+    record {
+      guest = guest;
+      plan = same_plan job one (sectors_of target) plan plan' is.is_plan (plan_again job (sectors_of target) plan' one other guest is'.is_plan);
+    }
+
+-- a plan whose contents that can't grow are no error
+record IsPassed (job : ResizeJob) (source target : List ℕ) : Type 0 where
+  guest : GuestView
+  plan : Plan
+  planned : HasPlanFor job source target guest plan
+  unstuck : job.unknown ≡ Error → first_stuck job.grow plan guest.parts ≡ None
+
+-- how far the judging comes: the guest, the plan, the contents that can't grow, those that grow
 abbrev Passed : ResizeJob → List ℕ → List ℕ → ℕ → Type 0
 Passed job source target zero = Unit {0}
 Passed job source target (suc zero) = (guest : GuestView) × IsGuestIn source guest
 Passed job source target (suc (suc zero)) = (guest : GuestView) × (plan : Plan) × HasPlanFor job source target guest plan
-Passed job source target (suc (suc (suc zero))) = HasWork job source target
-Passed job source target (suc (suc (suc (suc n)))) = ⊥
+Passed job source target (suc (suc (suc zero))) = IsPassed job source target
+Passed job source target (suc (suc (suc (suc zero)))) = HasWork job source target
+Passed job source target (suc (suc (suc (suc (suc n))))) = ⊥
 
 abbrev status_at : ℕ → ℕ
 status_at zero = 2
 status_at (suc zero) = 4
 status_at (suc (suc zero)) = 2
-status_at (suc (suc (suc n))) = 0
+status_at (suc (suc (suc zero))) = 9
+status_at (suc (suc (suc (suc n)))) = 0
 
 back : (job : ResizeJob) (source target : List ℕ) (k : ℕ) → Passed job source target (suc k) → Passed job source target k
 back job source target zero passed = tt
 back job source target (suc zero) passed = let planned : HasPlanFor job source target passed.0 passed.1 = passed.2 in (passed.0, planned.is_guest)
-back job source target (suc (suc zero)) passed = (passed.guest, passed.plan, passed.to_do.planned)
-back job source target (suc (suc (suc n))) passed = absurd passed
+back job source target (suc (suc zero)) passed = (passed.guest, passed.plan, passed.planned)
+back job source target (suc (suc (suc zero))) passed =
+    record { guest = passed.guest; plan = passed.plan; planned = passed.to_do.planned; unstuck = passed.to_do.unstuck }
+back job source target (suc (suc (suc (suc n)))) passed = absurd passed
 
 -- a guest has no reason against it
 guest_stops : (job : ResizeJob) (source target : List ℕ) (fault : InspectFault) → ((fault ≡ guests.Device) → ⊥) → ((fault ≡ guests.Memory) → ⊥)
@@ -77,11 +115,24 @@ stuck_stops job source target fault stuck = record {
   stage = 2;
   passed = (stuck.guest, stuck.plan, stuck.planned);
   ends = λ has.
-      let guest : has.guest ≡ stuck.guest = same_guest source stuck.guest has.guest stuck.planned.is_guest has.to_do.planned.is_guest in
-      let Planned : GuestView → Type 0 = λ one. IsPlanFor job one (sectors_of target) has.plan in
-      let plan : has.plan ≡ stuck.plan =
-      same_plan job stuck.guest (sectors_of target) stuck.plan has.plan stuck.planned.is_plan (subst Planned guest has.to_do.planned.is_plan) in
-      cc (has.to_do.unstuck stuck.error, stuck.first, guest, plan);
+      let same = again job source target stuck.guest has.guest stuck.plan has.plan stuck.planned has.planned in
+      let None_ : Plan → Type 0 = λ plan. first_stuck job.grow plan has.guest.parts ≡ None in
+      stuck_or_none job.grow stuck.plan stuck.guest.parts has.guest.parts same.guest.parts fault stuck.first (subst None_ same.plan (has.unstuck stuck.error));
+  is_status = refl;
+}
+
+-- a content that grows
+growth_stops : (job : ResizeJob) (source target : List ℕ) → HasGrowthFor job source target → StopsAt (Passed job source target) status_at 9
+growth_stops job source target growth = record {
+  stage = 3;
+  passed = record { guest = growth.guest; plan = growth.plan; planned = growth.planned; unstuck = growth.unstuck };
+  ends = λ has.
+      let same = again job source target growth.guest has.guest growth.plan has.plan growth.planned has.to_do.planned in
+      let grows : has_growth job.grow growth.plan has.guest.parts ≡ true =
+      same_growth job.grow growth.plan growth.guest.parts has.guest.parts same.guest.parts ∙ growth.grows in
+      let none : has_growth job.grow growth.plan has.guest.parts ≡ false =
+      ap (λ (plan : Plan). has_growth job.grow plan has.guest.parts) (sym same.plan) ∙ has.to_do.served in
+      false≢true (sym none ∙ grows);
   is_status = refl;
 }
 
@@ -109,15 +160,14 @@ plan_stops job source target fault none = record {
   passed = (none.guest, none.is_guest);
   ends = λ has.
       let planned : HasPlanFor job source target has.0 has.1 = has.2 in
-      let guest : has.0 ≡ none.guest = same_guest source none.guest has.0 none.is_guest planned.is_guest in
-      let Planned : GuestView → Type 0 = λ one. IsPlanFor job one (sectors_of target) has.1 in
-      unplanned job none.guest (sectors_of target) fault has.1 (subst Planned guest planned.is_plan) none.none;
+      let same = same_guest source none.guest has.0 none.is_guest planned.is_guest in
+      unplanned job none.guest (sectors_of target) fault has.1 (plan_again job (sectors_of target) has.1 none.guest has.0 same planned.is_plan) none.none;
   is_status = refl;
 }
 
 stops : (job : ResizeJob) (source target : List ℕ) (due : Option Refusal) → Due (resize_of job source target) due → StopsAt (Passed job source target) status_at (due_status due)
-stops job source target None has = record { stage = 3; passed = has; ends = λ more. more; is_status = refl }
-stops job source target (Some NotYet) is = absurd is
+stops job source target None has = record { stage = 4; passed = has; ends = λ more. more; is_status = refl }
+stops job source target (Some NotYet) is = growth_stops job source target is
 stops job source target (Some (Source fault)) is = no_source_stops job source target fault is
 stops job source target (Some (Unplanned fault)) is = plan_stops job source target fault is
 stops job source target (Some (Usage usage)) is = absurd is

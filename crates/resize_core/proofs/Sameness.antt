@@ -7,7 +7,10 @@ use Rattle.disk_base.specs.Image.{bytes_at, sector, sectors_of}
 use Rattle.disk_base.proofs.Images.{byte_of_range, length-bytes_at}
 use Rattle.guest_view.specs.declared.guest.GuestPart.{GuestPart}
 use Rattle.guest_view.specs.declared.table.Table.{Table}
-use Rattle.guest_view.specs.Guests.{GuestView, kind_of, planned_part}
+use Rattle.guest_view.specs.Guests.{GuestView, IsGuest, kind_of}
+use Rattle.guest_view.specs.Contents.{planned_part}
+use Rattle.guest_view.specs.Laws.{part_bytes}
+use Rattle.guest_view.proofs.Staying.{contents_are_found, contents_stay, share_of}
 use Rattle.layout_plan.specs.declared.part.Part.{Part}
 use Rattle.layout_plan.specs.declared.part.Placed.{Placed}
 use Rattle.layout_plan.specs.declared.wish.Wish.{Wish}
@@ -21,10 +24,11 @@ use Rattle.run_copy.proofs.Copies.{zero_each}
 use Rattle.target_table.specs.Planned.{HasSameName, KeepsNames, parts_to_plan}
 use Rattle.target_work.specs.Works.{IsDone, Work}
 use Rattle.words.specs.declared.job.ResizeJob.{ResizeJob}
-use Rattle.resize_core.specs.Contents.{boot_end, boot_transfers, content_transfer, content_transfers, placed_from, transfer_to}
+use Rattle.resize_core.specs.Contents.{boot_end, boot_transfers, content_transfer, content_transfers, is_copied, placed_from, transfer_to}
 use Rattle.resize_core.specs.Same.{IsNotLost, KeepsPart, KeepsZeros, ReadsSame}
 use Rattle.resize_core.specs.inside.Deciding.{IsMade, IsPlannedFor}
 use Rattle.resize_core.proofs.Carriable.{nowhere}
+use Rattle.resize_core.proofs.Volumes.{AreSameRanges, volumes_keep}
 use Rattle.resize_core.proofs.Gathered.{IsAmong, among_append, among_gathered, found_at}
 
 -- a byte of a sector of zeros, and of a sector in a piece of zeros
@@ -73,35 +77,69 @@ module _ (source old : List ℕ) (t : Transfer) (k : ℕ) (within : k < t.count)
 
 module _ (job : ResizeJob) (guest : GuestView) (plan : Plan) (table' : Table) (head source old new : List ℕ) (work : Work)
     (planned : IsPlannedFor job guest (sectors_of old) plan) (made : IsMade job guest plan head (sectors_of old) work)
-    (of_source : guest.sectors ≡ sectors_of source) (names : KeepsNames guest.table table' plan) (done : IsDone work source old new) (keeps : KeepsZeros job old) where
-  -- the sectors of a content
-  content_is : (part : GuestPart) (placed : Placed) → part.count ≤ placed.count → IsAmong work.transfers (content_transfer job.sparse part placed)
-      → (k : ℕ) → k < part.count → sector new (placed.start + k) ≡ sector source (part.start + k)
-  content_is part placed long among k within =
+    (of_source : guest.sectors ≡ sectors_of source) (names : KeepsNames guest.table table' plan) (done : IsDone work source old new) (keeps : KeepsZeros job old)
+    (is_guest : IsGuest (sectors_of source) source guest) where
+  -- where they are
+  between_is : (part : GuestPart) (placed : Placed) → IsAmong work.transfers (content_transfer job.sparse part placed)
+      → IsBetween guest.sectors (sectors_of old) (content_transfer job.sparse part placed)
+  between_is part placed among =
       let t : Transfer = content_transfer job.sparse part placed in
       let at : slice_index_or work.transfers among.place t ≡ t = among.is t in
-      let small : k < t.count = omega (arith, long, within) in
       let Between : Transfer → Type 0 = λ one. IsBetween guest.sectors (sectors_of old) one in
-      let between : IsBetween guest.sectors (sectors_of old) t = subst Between at (made.between among.place t among.within) in
+      subst Between at (made.between among.place t among.within)
+
+  -- the sectors of a content
+  content_is : (part : GuestPart) (placed : Placed) → IsAmong work.transfers (content_transfer job.sparse part placed)
+      → (k : ℕ) → k < min part.count placed.count → sector new (placed.start + k) ≡ sector source (part.start + k)
+  content_is part placed among k within =
+      let t : Transfer = content_transfer job.sparse part placed in
+      let at : slice_index_or work.transfers among.place t ≡ t = among.is t in
+      let small : k < t.count = within in
+      let between : IsBetween guest.sectors (sectors_of old) t = between_is part placed among in
       let on_source : 512 * (t.from + t.count) ≤ length source = omega (arith, between.source, of_source) in
       let on_target : 512 * (t.to + t.count) ≤ length old = omega (arith, between.target) in
       let Copied : Transfer → Type 0 = λ one. (i : ℕ) → i < one.count → sector new (one.to + i) ≡ due source old one i in
       subst Copied at (done.copied among.place t among.within) k small ∙ due_is source old t k small on_source on_target keeps
 
-  part_same : (k : ℕ) (d : GuestPart) → k < length guest.parts → KeepsPart guest.table table' plan source new (slice_index_or guest.parts k d)
-  part_same k d within = λ placed found copied long.
+  -- what is copied of a part is among all that is
+  among_is : (k : ℕ) (d : GuestPart) → k < length guest.parts → (placed : Placed) → placed_from plan (slice_index_or guest.parts k d).number ≡ Some placed
+      → is_copied placed.fate ≡ true → IsAmong work.transfers (content_transfer job.sparse (slice_index_or guest.parts k d) placed)
+  among_is k d within placed found copied =
       let part : GuestPart = slice_index_or guest.parts k d in
       let t : Transfer = content_transfer job.sparse part placed in
       let gives : transfer_to job.sparse part (placed_from plan part.number) ≡ Some t = ap (λ o. transfer_to job.sparse part o) found ∙ ap (λ b. if b then Some t else None) copied in
       let among = among_gathered (λ (one : GuestPart). transfer_to job.sparse one (placed_from plan one.number)) guest.parts k d t within gives in
       let all = among_append (content_transfers job.sparse plan guest.parts) (boot_transfers job.boot (kind_of guest.table) (boot_end (kind_of guest.table) guest.parts plan)) t among in
       let Among : List Transfer → Type 0 = λ ts. IsAmong ts t in
+      subst Among (sym made.transfers) all
+
+  ranges : AreSameRanges plan source new guest.parts
+  ranges k d within placed found copied =
+      let part : GuestPart = slice_index_or guest.parts k d in
+      let there = among_is k d within placed found copied in
+      let between = between_is part placed there in
+      record {
+        on_source = omega (arith, between.source, of_source);
+        on_new = omega (arith, between.target, done.same_length);
+        sectors = content_is part placed there;
+      }
+
+  part_same : (k : ℕ) (d : GuestPart) → k < length guest.parts → KeepsPart guest.table table' plan source new (slice_index_or guest.parts k d)
+  part_same k d within = λ placed found copied uncut.
+      let part : GuestPart = slice_index_or guest.parts k d in
       let at = found_at (λ (one : Placed). one.from == part.number) plan.parts placed found in
       let from : placed.from ≡ part.number = (Decides-eqb placed.from part.number).0 at.passes in
       let Name : Placed → Type 0 = λ one. HasSameName guest.table table' one.from one.number in
       let named : HasSameName guest.table table' placed.from placed.number = subst Name (at.is nowhere) (names at.place nowhere at.within) in
       let From : ℕ → Type 0 = λ n. HasSameName guest.table table' n placed.number in
-      record { name = subst From from named; content = content_is part placed long (subst Among (sym made.transfers) all) }
+      let range = ranges k d within placed found copied in
+      record {
+        name = subst From from named;
+        content = range.sectors;
+        stays = contents_stay part.content part.count placed.count (part_bytes source part) (bytes_at new (512 * placed.start) (512 * placed.count))
+            (contents_are_found (sectors_of source) source guest is_guest k d within) uncut
+            (share_of source new part.start part.count placed.start placed.count range.on_source range.on_new range.sectors);
+      }
 
   -- what isn't gone is placed
   placed_some : (k : ℕ) (d : GuestPart) → k < length guest.parts → IsNotLost job.wishes guest plan (slice_index_or guest.parts k d)
@@ -120,4 +158,4 @@ module _ (job : ResizeJob) (guest : GuestView) (plan : Plan) (table' : Table) (h
       finds (λ (one : Placed). one.from == part.number) plan.parts placed (there.0, in_plan, get_or_default plan.parts there.0 placed nowhere in_plan) ((Decides-eqb placed.from part.number).1 from)
 
   pub reads_same : ReadsSame job.wishes guest plan table' source new
-  reads_same = record { each = part_same; none_lost = placed_some }
+  reads_same = record { each = part_same; volumes = volumes_keep plan source new (sectors_of source) guest is_guest ranges; none_lost = placed_some }

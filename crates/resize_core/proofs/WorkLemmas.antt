@@ -70,7 +70,13 @@ refused_for job source target guest (Source (Volume fault)) is why = inr (record
 })
 refused_for job source target guest (Source (Guest fault)) is why = absurd why
 refused_for job source target guest (Usage usage) is why = absurd why
-refused_for job source target guest NotYet is why = absurd why
+refused_for job source target guest NotYet is why = inr (record {
+  guest = guest;
+  plan = why.plan;
+  planned = record { is_guest = is; is_plan = why.is_plan };
+  unstuck = why.unstuck;
+  grows = why.grows;
+})
 
 -- text that is shown, where there is some
 shown_some : (prints : Bool) (text : List ℕ) → shown prints text ≢ [] → IsTrue prints
@@ -130,7 +136,9 @@ finished_of job source source' target mid target' work before after same same_ta
       done = is_done;
       table = subst OfTarget many (made.table.read_back none target' long is_done.first_is is_done.written);
       planned = made.table.planned;
-      same = λ keeps. reads_same job prepared.guest prepared.plan table' (head_of source) source target target' work prepared.placed made is_guest.sectors_are made.table.names is_done keeps;
+      same = λ keeps.
+          reads_same job prepared.guest prepared.plan table' (head_of source) source target target' work prepared.placed made is_guest.sectors_are made.table.names is_done keeps
+          is_guest;
     }
 
 -- what is left where something failed under the work
@@ -234,7 +242,7 @@ prepared_of job source target guest head sectors prepared is_guest is_head many 
     record {
       guest = guest;
       plan = is.plan;
-      to_do = record { planned = record { is_guest = is_guest; is_plan = planned.is_plan }; unstuck = is.unstuck };
+      to_do = record { planned = record { is_guest = is_guest; is_plan = planned.is_plan }; unstuck = is.unstuck; served = is.served };
       placed = planned;
       made = subst Made (sym many) (subst Head is_head is.made);
       summary = is.summary;

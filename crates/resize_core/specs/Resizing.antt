@@ -1,5 +1,5 @@
 -- What virt-resize means: its refusals, its work, what the work leaves, and what is printed.
-use Rattle.std.specs.Prelude.{◌≡◌, ℕ, ◌⊎◌, not, List, Option, Some, None}
+use Rattle.std.specs.Prelude.{◌≡◌, ℕ, ◌⊎◌, true, false, not, List, Option, Some, None}
 use Rattle.disk_base.specs.declared.device.Blocks.{Ghosts as BlocksGhosts}
 use Rattle.disk_base.specs.declared.device.DeviceFault.{DeviceFault}
 use Rattle.disk_base.specs.declared.device.DeviceFault.TheVariants as devices
@@ -24,7 +24,7 @@ use Rattle.target_work.specs.Works.{HasNoTable, IsDone, Work}
 use Rattle.words.specs.declared.job.ResizeJob.{ResizeJob}
 use Rattle.words.specs.declared.job.Unknown.TheVariants.{Error}
 use Rattle.resize_core.specs.Contents.{IsWorkOf, table_to_have}
-use Rattle.resize_core.specs.Growth.{first_stuck}
+use Rattle.resize_core.specs.Growth.{first_stuck, has_growth}
 use Rattle.resize_core.specs.Same.{KeepsZeros, ReadsSame}
 use Rattle.resize_core.specs.Summary.{last_line, lines_of, shown}
 
@@ -65,6 +65,14 @@ pub record IsStuck (job : ResizeJob) (source target : List ℕ) (fault : VolumeF
   pub error : job.unknown ≡ Error
   pub first : first_stuck job.grow plan guest.parts ≡ Some fault
 
+-- a content has to grow, which isn't served yet
+pub record HasGrowthFor (job : ResizeJob) (source target : List ℕ) : Type 0 where
+  pub guest : GuestView
+  pub plan : Plan
+  pub planned : HasPlanFor job source target guest plan
+  pub unstuck : job.unknown ≡ Error → first_stuck job.grow plan guest.parts ≡ None
+  pub grows : has_growth job.grow plan guest.parts ≡ true
+
 -- why a disk is no source for a job
 abbrev pub IsNoSource : ResizeJob → List ℕ → List ℕ → SourceFault → Type 0
 IsNoSource job source target (Guest fault) = IsBadSource source fault
@@ -73,15 +81,17 @@ IsNoSource job source target (Volume fault) = IsStuck job source target fault
 -- the refusals that are due of a job
 abbrev pub IsResizeRefused : ResizeJob → List ℕ → List ℕ → Refusal → Type 0
 IsResizeRefused job source target (Usage usage) = ⊥
-IsResizeRefused job source target NotYet = ⊥
+IsResizeRefused job source target NotYet = HasGrowthFor job source target
 IsResizeRefused job source target (Source fault) = IsNoSource job source target fault
 IsResizeRefused job source target (Unplanned fault) = HasNoPlanFor job source target fault
 IsResizeRefused job source target Memory = ⊥
 
--- a guest and a plan for which the job is to be done: where a content that can't grow is an error, there is none
+-- a guest and a plan for which the job is to be done: where a content that can't grow is an error, there is none, and no
+-- content has to grow
 pub record IsToDo (job : ResizeJob) (source target : List ℕ) (guest : GuestView) (plan : Plan) : Type 0 where
   pub planned : HasPlanFor job source target guest plan
   pub unstuck : job.unknown ≡ Error → first_stuck job.grow plan guest.parts ≡ None
+  pub served : has_growth job.grow plan guest.parts ≡ false
 
 pub record HasWork (job : ResizeJob) (source target : List ℕ) : Type 0 where
   pub guest : GuestView

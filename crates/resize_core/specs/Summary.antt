@@ -10,7 +10,7 @@ use Rattle.layout_plan.specs.declared.part.Placed.{Placed}
 use Rattle.layout_plan.specs.Plans.{Plan}
 use Rattle.run_end.specs.declared.end.VolumeFault.{VolumeFault}
 use Rattle.run_end.specs.Text.{joined}
-use Rattle.guest_view.specs.FaultTexts.{why_text}
+use Rattle.volume_content.specs.Text.{unread_text}
 use Rattle.words.specs.declared.job.ResizeJob.{ResizeJob}
 use Rattle.words.specs.declared.job.Unknown.{Unknown}
 use Rattle.words.specs.declared.job.Unknown.TheVariants.{Ignore, Warn, Error}
@@ -50,7 +50,7 @@ extra_line (Some extra) =
 
 -- the line of a partition whose content has to grow and can't
 abbrev pub stuck_line : VolumeFault → List ℕ
-stuck_line fault = joined (codes "/dev/sda" ∷ decimal fault.part ∷ codes ": not expanded: " ∷ why_text fault.why ∷ codes "\n" ∷ [])
+stuck_line fault = joined (codes "/dev/sda" ∷ decimal fault.part ∷ codes ": not expanded: " ∷ unread_text fault.why ∷ codes "\n" ∷ [])
 
 -- their lines, where that is asked for
 abbrev pub stuck_lines : Unknown → List VolumeFault → List ℕ

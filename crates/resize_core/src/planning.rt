@@ -1,6 +1,7 @@
 //! Deciding what a job does, by what the source is and the target's size.
 ghost use Rattle.std.specs.Prelude.{◌≡◌, ℕ, ◌≤◌, ◌^◌, map, IfOk, IfErr, MatchOption};
-ghost use Rattle.guest_view.specs.Guests.{kind_of, planned_part};
+ghost use Rattle.guest_view.specs.Guests.{kind_of};
+ghost use Rattle.guest_view.specs.Contents.{planned_part};
 ghost use Rattle.layout_plan.specs.Source.{IsSource};
 ghost use Rattle.layout_plan.specs.Tables.{HasRoom};
 ghost use Rattle.resize_core.specs.Contents.{head_for, transfers_of};
@@ -10,11 +11,11 @@ ghost use Rattle.target_table.specs.Planned.{IsGuestPlan, IsSomePlan, parts_to_p
 ghost use Rattle.words.specs.Plannable.{IsPlannable};
 
 use crate::copied::{add_boot_area, boot_end, contents};
-use crate::growth::stuck_parts;
+use crate::growth::{has_growth, stuck_parts};
 use crate::ready::Ready;
 use crate::source::SourceDisk;
 use guest_view::Guest;
-use layout_plan::{NoPlan, Part, Planned, plan};
+use layout_plan::{NoPlan, Planned, plan};
 use run_copy::Transfer;
 use run_end::{Refusal, SourceFault, VolumeFault};
 use std::alloc::{AllocError, Global};
@@ -25,18 +26,6 @@ use words::{ResizeJob, Unknown};
 /// The bytes of boot code at the start of sector 0.
 const BOOT_CODE: usize = 440;
 
-// The partitions of a guest as a plan takes them.
-fn parts_to_plan(alloc: Global, guest: &Guest) -> Result<Vec<Part>, AllocError>
-    ensures parts { IfOk result (λ parts. parts.items ≡ parts_to_plan guest.now) }
-    ensures source { IfOk result (λ parts. IsSource (kind_of guest.now.table) parts.items) }
-{
-    let mut parts = Vec::new(alloc);
-    for part in guest.parts() {
-        parts.push(part.part())?;
-    }
-    Ok(parts)
-}
-
 // The plan of a job.
 fn plan_for(alloc: Global, guest: &Guest, job: &ResizeJob, sectors: u64) -> Result<Planned, Refusal>
     requires { IsPlannable job.now }
@@ -44,7 +33,7 @@ fn plan_for(alloc: Global, guest: &Guest, job: &ResizeJob, sectors: u64) -> Resu
     ensures none { IfErr result (IsUnplanned job.now guest.now sectors) }
 {
     let kind = guest.table().kind();
-    let parts = match parts_to_plan(alloc, guest) {
+    let parts = match guest.parts_to_plan(alloc) {
         Ok(parts) => parts,
         Err(_) => return Err(Refusal::Memory),
     };
@@ -147,6 +136,9 @@ fn ready_for(
     if let Some(fault) = first_error(job.unknown, stuck.as_slice()) {
         return Err(Refusal::Source(SourceFault::Volume(fault)));
     }
+    if has_growth(found.guest.parts(), &planned, job.grow) {
+        return Err(Refusal::NotYet);
+    }
     match writing_for(alloc, found, job, &planned, sectors) {
         Ok(writing) => Ok(Ready {
             planned,
@@ -158,7 +150,8 @@ fn ready_for(
 }
 
 /// Decides what a job does with a source on a target of `sectors` sectors, and makes all that is to be written. It
-/// refuses, in this order, where there is no plan, and where a content has to grow and can't and that is an error.
+/// refuses, in this order, where there is no plan, where a content has to grow and can't and that is an error, and where
+/// one has to grow, which isn't served yet.
 pub fn prepare(
     alloc: Global,
     found: &SourceDisk,

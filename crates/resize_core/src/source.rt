@@ -11,7 +11,7 @@ use guest_view::{Guest, InspectFault, inspect};
 use std::alloc::Global;
 
 /// A source as it was read: what it is, and bytes 0 to 445 of its sector 0.
-#[derive(Debug, Drop)]
+#[derive(Drop)]
 pub struct SourceDisk {
     pub guest: Guest,
     pub head: [u8; 446],
@@ -51,7 +51,7 @@ fn with_head<S: Blocks>(source: &mut S, guest: Guest) -> Result<SourceDisk, Fail
     Ok(SourceDisk { guest, head })
 }
 
-/// What the source is: its table, its partitions, and the head of its sector 0.
+/// What the source is: its table, its partitions with what they hold, and the head of its sector 0.
 pub fn read_source<S: Blocks>(alloc: Global, source: &mut S) -> Result<SourceDisk, InspectFault>
     ensures read { S.only_read source.old source.new }
     ensures guest { IsTrue S.tells → IfOk result (λ found. IsGuest (S.size source.old) (S.image source.old) found.guest) }

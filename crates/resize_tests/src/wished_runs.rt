@@ -722,13 +722,13 @@ fn small_texts(is_gpt: bool) -> (&'static [u8], &'static [u8]) {
     }
 }
 
-// The source is attached and its table is read, the backup and its array too, or the three records; then the
-// content is read, or both contents, and the boot area.
+// The source is attached and its table is read, the backup and its array too, or the three records; each partition but the
+// extended one is looked at three times; then the content is copied, or both contents, and the boot area.
 #[test]
 fn each_call_of_a_source_with_another_table_may_fail(rt: HostRuntime) -> Result<(), Fail> {
-    for step in 0..20u64 {
-        let (is_gpt, number) = (step < 9, if step < 9 { step } else { step - 9 });
-        let (ready, calls) = if is_gpt { (6, 8) } else { (7, 10) };
+    for step in 0..32u64 {
+        let (is_gpt, number) = (step < 12, if step < 12 { step } else { step - 12 });
+        let (ready, calls) = if is_gpt { (9, 11) } else { (16, 19) };
         let failing = Failing {
             source: Some(number),
             ..NONE

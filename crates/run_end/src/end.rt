@@ -3,9 +3,10 @@ ghost use Rattle.std.specs.Prelude.{◌≡◌};
 ghost use Rattle.run_end.specs.Ending.{refusal_status, status_of};
 
 use disk_base::DeviceFault;
-use guest_view::{InspectFault, Why};
+use guest_view::InspectFault;
 use layout_plan::NoPlan;
 use std::fmt;
+use volume_content::Why;
 use words::Usage;
 
 /// The content of a partition, by its number in the source, that would have to grow and can't, and why.

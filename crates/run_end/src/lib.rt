@@ -5,7 +5,7 @@
 //! names no tool. A tool gives a `Meaning` and shows that at most one status is due of it.
 //!
 //! It stands on disk_base for disks, on words for what is wrong with words, on guest_view for why a disk is no
-//! guest, and on layout_plan for why there is no plan.
+//! guest, on volume_content for why a content isn't read, and on layout_plan for why there is no plan.
 #![tactic(auto)]
 
 mod end;

@@ -209,19 +209,20 @@ const ALL: &[u8] =
 
 const PRINTING: &[u8] = b"virt-resize: printing\n";
 
-// The source is attached, read three times for its table, ten times for the content and once for the boot area.
+// The source is attached, read three times for its table, three times for what the partition holds, ten times to copy it
+// and once for the boot area.
 #[test]
 fn each_call_of_the_source_may_fail(rt: HostRuntime) -> Result<(), Fail> {
     let alloc = rt.alloc();
-    for number in 0..16 {
+    for number in 0..19 {
         let failing = Failing {
             source: Some(number),
             ..NONE
         };
         let left = failing_copy(alloc, failing)?;
         let (status, out, err, table) = match number {
-            0..=3 => (5, b"".as_slice(), SOURCE, 0x5A),
-            15 => (0, ALL, b"".as_slice(), 0x55),
+            0..=6 => (5, b"".as_slice(), SOURCE, 0x5A),
+            18 => (0, ALL, b"".as_slice(), 0x55),
             _ => (5, SUMMARY, SOURCE, 0),
         };
         assert_eq!(rt;

@@ -7,6 +7,7 @@ use layout_plan::{Kind, Role};
 use std::alloc::{AllocError, Global};
 use std::test::*;
 use uuid::Uuid;
+use volume_content::Why;
 
 // The sectors of the disks here.
 const SECTORS: u64 = 400;
@@ -62,6 +63,15 @@ fn rows_of(alloc: Global, guest: &Guest) -> Result<Vec<Row>, AllocError> {
     Ok(rows)
 }
 
+// Whether a partition is the extended one, or holds what is of no kind that is read.
+fn holds_nothing_known(part: &GuestPart) -> bool {
+    match (part.role, &part.content) {
+        (Role::Extended, Content::Extended) => true,
+        (Role::Slot | Role::Logical, Content::Unread(Why::Other)) => true,
+        _ => false,
+    }
+}
+
 const CHAIN: [(u16, &[Slot]); 3] = [
     (0, &[(0x83, 1, 50), (0x05, 64, 300)]),
     (64, &[(0x83, 8, 50), (0x05, 100, 100)]),
@@ -94,12 +104,10 @@ fn partitions_stand_by_number(rt: HostRuntime) -> Result<(), Fail> {
         assert_eq!(rt; guest.sectors(), 400);
         assert_eq!(rt; guest.table().kind(), Kind::Mbr);
         for part in guest.parts() {
-            let content = match part.role {
-                Role::Extended => Content::Extended,
-                Role::Slot | Role::Logical => Content::Unread(Why::Other),
-            };
-            assert_eq!(rt; part.content, content);
-            assert_eq!(rt; part.part().content, part.count);
+            assert!(rt; holds_nothing_known(part));
+        }
+        for part in guest.parts_to_plan(alloc)?.as_slice() {
+            assert_eq!(rt; part.content, part.count);
         }
     }
     Ok(())
@@ -170,14 +178,18 @@ fn a_disk_that_is_no_guest_has_its_fault(rt: HostRuntime) -> Result<(), Fail> {
     Ok(())
 }
 
+// Sector 0 for its kind and for its slots, two records of the chain, and of the three partitions but the extended one
+// their label, their first sector and their first page.
+const READS: u64 = 2 + 2 + 3 * 3;
+
 #[test]
 fn each_read_may_fail(rt: HostRuntime) -> Result<(), Fail> {
     let alloc = rt.alloc();
-    for number in 0..4 {
+    for number in 0..READS {
         let mut disk = disk_with(alloc, &CHAIN, Some(number))?;
         assert_eq!(rt; inspect(alloc, &mut disk).err(), Some(InspectFault::Device));
     }
-    let mut disk = disk_with(alloc, &CHAIN, Some(4))?;
+    let mut disk = disk_with(alloc, &CHAIN, Some(READS))?;
     assert!(rt; inspect(alloc, &mut disk).is_ok());
     Ok(())
 }

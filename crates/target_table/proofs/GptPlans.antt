@@ -8,7 +8,9 @@ use Rattle.guest_view.specs.declared.guest.GuestPart.{GuestPart}
 use Rattle.guest_view.specs.declared.partition.Partition.{Partition}
 use Rattle.guest_view.specs.declared.table.Table.{Table}
 use Rattle.guest_view.specs.declared.table.Table.TheVariants.{Gpt}
-use Rattle.guest_view.specs.Guests.{GuestView, guest_part, kind_of, planned_part}
+use Rattle.guest_view.specs.Guests.{GuestView, kind_of}
+use Rattle.guest_view.specs.Contents.{partition_of, planned_part}
+use Rattle.guest_view.proofs.Bare.{of_parts}
 use Rattle.guest_view.specs.Partitions.{entry_partition, named_from, partitions_of}
 use Rattle.guest_view.proofs.Named.{IsNamedBy, named_each}
 use Rattle.layout_plan.specs.declared.part.Fate.{Fate}
@@ -101,13 +103,13 @@ named_entry entries partition by =
     names_entry entries (1 + by.place) (slice_index_or entries by.place None) partition (omega arith) (ap (λ (k : ℕ). slice_index_or entries k None) place) (by.names None)
 
 -- each number of a part that is planned is that of a used entry
-numbers_used : (entries : List (Option Entry))
-    → All (HasEntry entries) (map (λ (part : Part). part.number) (map planned_part (map guest_part (named_from entry_partition 1 entries))))
-numbers_used entries =
+numbers_used : (entries : List (Option Entry)) (parts : List GuestPart) → map partition_of parts ≡ named_from entry_partition 1 entries
+    → All (HasEntry entries) (map (λ (part : Part). part.number) (map planned_part parts))
+numbers_used entries parts named =
     let partitions : List Partition = named_from entry_partition 1 entries in
-    All-map (HasEntry entries) (λ (part : Part). part.number) (map planned_part (map guest_part partitions))
-    (All-map (λ (part : Part). HasEntry entries part.number) planned_part (map guest_part partitions)
-    (All-map (λ (part : GuestPart). HasEntry entries part.number) guest_part partitions
+    All-map (HasEntry entries) (λ (part : Part). part.number) (map planned_part parts)
+    (All-map (λ (part : Part). HasEntry entries part.number) planned_part parts
+    (of_parts (λ (p : Partition). HasEntry entries p.number) parts partitions named
     (All-weaker (IsNamedBy entry_partition 1 entries) (λ (p : Partition). HasEntry entries p.number) (named_entry entries) partitions
     (named_each entry_partition 1 entries))))
 
@@ -129,7 +131,7 @@ extra_number parts limit None behind = tt
 extra_number parts limit (Some one) behind = behind.other_numbers
 
 -- a plan for a guest with a GPT
-pub gpt_plan : (guest : GuestView) (table : EntryTable) (sectors : ℕ) (plan : Plan) → guest.table ≡ Gpt table → guest.parts ≡ map guest_part (partitions_of guest.table)
+pub gpt_plan : (guest : GuestView) (table : EntryTable) (sectors : ℕ) (plan : Plan) → guest.table ≡ Gpt table → map partition_of guest.parts ≡ partitions_of guest.table
     → IsSomePlan guest sectors plan → IsGptPlan table.entries sectors plan
 gpt_plan guest table sectors plan table_is named some =
     let known = some.is in
@@ -141,10 +143,9 @@ gpt_plan guest table sectors plan table_is named some =
     let inside : All (IsPlacedInside kinds.Gpt plan.limit) plan.parts = subst Inside table_is known.inside in
     let Behind : Table → Type 0 = λ t. IfSome plan.extra (IsBehind (kind_of t) plan.parts plan.limit) in
     let behind : IfSome plan.extra (IsBehind kinds.Gpt plan.parts plan.limit) = subst Behind table_is known.behind in
-    let Named : Table → Type 0 = λ t. guest.parts ≡ map guest_part (partitions_of t) in
-    let parts_are : guest.parts ≡ map guest_part (named_from entry_partition 1 table.entries) = subst Named table_is named in
-    let Used : List GuestPart → Type 0 = λ parts. All (HasEntry table.entries) (map (λ (part : Part). part.number) (map planned_part parts)) in
-    let used = subst Used (sym parts_are) (numbers_used table.entries) in
+    let Named : Table → Type 0 = λ t. map partition_of guest.parts ≡ partitions_of t in
+    let parts_are : map partition_of guest.parts ≡ named_from entry_partition 1 table.entries = subst Named table_is named in
+    let used = numbers_used table.entries guest.parts parts_are in
     let Left : Table → Type 0 = λ t. IsExtra (kind_of t) some.layout (last_end (floor_of (kind_of t)) known.is_plan.spots) plan.parts plan.limit plan.extra in
     let left = subst Left table_is known.is_plan.is_extra in
     record {

@@ -4,7 +4,7 @@ use Rattle.std.proofs.lemmas.Bool.{cases_eq, ne_eqb}
 use Rattle.std.proofs.lemmas.List.{get_or_default, get_or-map, length-append, length-map, length-replicate}
 use Rattle.std.proofs.lemmas.Option.{slice_get-get_or}
 use Rattle.guest_view.specs.declared.guest.GuestPart.{GuestPart}
-use Rattle.guest_view.specs.Guests.{planned_part}
+use Rattle.guest_view.specs.Contents.{planned_part}
 use Rattle.layout_plan.specs.declared.part.Fate.{Fate}
 use Rattle.layout_plan.specs.declared.part.Fate.TheVariants.{Kept, Resized, Ignored, Extended as Outer}
 use Rattle.layout_plan.specs.declared.part.Kind.TheVariants.{Mbr}

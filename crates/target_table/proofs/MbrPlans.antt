@@ -4,10 +4,10 @@ use Rattle.std.proofs.Common.{◌≡◌, ◌≢◌, ℕ, ◌+◌, ◌-◌, ◌^�
 use Rattle.std.specs.List.{find}
 use Rattle.std.proofs.lemmas.Bool.{both_ways, eq-eqb, ne_eqb}
 use Rattle.std.proofs.lemmas.List.{get_or_default}
-use Rattle.std.proofs.lemmas.List.Elements.{All-contains, All-same}
+use Rattle.std.proofs.lemmas.List.Elements.{All-contains}
 use Rattle.guest_view.specs.declared.guest.GuestPart.{GuestPart}
 use Rattle.guest_view.specs.declared.table.Table.TheVariants.{Mbr as OfMbr}
-use Rattle.guest_view.specs.Guests.{guest_part, planned_part}
+use Rattle.guest_view.specs.Contents.{partition_of, planned_part}
 use Rattle.guest_view.specs.Partitions.{partitions_of}
 use Rattle.layout_plan.specs.declared.part.Kind.TheVariants.{Mbr}
 use Rattle.layout_plan.specs.declared.part.Part.{Part}
@@ -37,7 +37,7 @@ use Rattle.target_table.proofs.Placements.{all, made_of, part_there, rest}
 pub record IsMbrPlan (source_sectors sectors : ℕ) (table : Table) (parts : List GuestPart) (wishes : List Wish) (layout : Layout) (plan : Plan) : Type 0 where
   pub sound : AreSound source_sectors table.slots
   pub within : AreWithin table.slots table.logicals
-  pub named : parts ≡ map guest_part (partitions_of (OfMbr table))
+  pub named : map partition_of parts ≡ partitions_of (OfMbr table)
   pub source : IsSource Mbr (map planned_part parts)
   pub known : IsGuestPlan (record { sectors = source_sectors; table = OfMbr table; parts = parts }) wishes layout sectors plan
 
@@ -106,7 +106,7 @@ module _ (source_sectors sectors : ℕ) (table : Table) (parts : List GuestPart)
   few = is.known.is_plan.due.room.not_too_many
 
   of_table : All (IsMbrPart table) source_parts
-  of_table = All-same (IsMbrPart table) source_parts (map planned_part (map guest_part (partitions_of (OfMbr table)))) (ap (map planned_part) is.named) (mbr_parts table)
+  of_table = mbr_parts table parts is.named
 
   part_in_table : (k : ℕ) → k < length plan.parts → IsMbrPart table (slice_index_or made_parts k any_part)
   part_in_table k h = All-contains (IsMbrPart table) source_parts (slice_index_or made_parts k any_part) of_table (part_there Mbr source_parts is.source wishes layout sectors plan is.known.is_plan k h)
@@ -186,7 +186,7 @@ module _ (source_sectors sectors : ℕ) (table : Table) (parts : List GuestPart)
       let long = is.known.is_plan.placed.as_many in
       let splits = made_splits in_chain made_test source_parts is.source.by_number k any_part (omega (arith, h, long)) in
       let low : count_by (is_low in_chain part.number) source_parts ≡ part.number - 5 =
-      ap (λ (ps : List GuestPart). count_by (is_low in_chain part.number) (map planned_part ps)) is.named ∙ low_parts table part.number (omega (arith, number, one.within)) in
+      low_parts table parts is.named part.number (omega (arith, number, one.within)) in
       let room = count_same (makes_room new_wishes source_parts part) (is_low_gone in_chain made_test part.number) source_parts (λ other. room_is part other role) in
       let kept = count_alike in_chain has_record made_parts plan.parts (sym long)
       (λ j a b lt.

@@ -8,7 +8,8 @@ use Rattle.std.proofs.lemmas.Option.{slice_get-map, slice_get_within}
 use Rattle.disk_base.specs.Image.{bytes_at, sector}
 use Rattle.guest_view.specs.declared.guest.GuestPart.{GuestPart}
 use Rattle.guest_view.specs.declared.table.Table.TheVariants.{Mbr as OfMbr}
-use Rattle.guest_view.specs.Guests.{IsTableOf, planned_part}
+use Rattle.guest_view.specs.Guests.{IsTableOf}
+use Rattle.guest_view.specs.Contents.{planned_part}
 use Rattle.layout_plan.specs.declared.part.Kind.TheVariants.{Mbr}
 use Rattle.layout_plan.specs.declared.part.Placed.{Placed}
 use Rattle.layout_plan.specs.declared.part.Role.TheVariants.{Extended}

@@ -4,7 +4,8 @@ use Rattle.std.proofs.lemmas.Bool.{cases_Bool}
 use Rattle.guest_view.specs.declared.guest.GuestPart.{GuestPart}
 use Rattle.guest_view.specs.declared.table.Table.{Table}
 use Rattle.guest_view.specs.declared.table.Table.TheVariants.{Mbr as OfMbr}
-use Rattle.guest_view.specs.Guests.{GuestView, IsSoundTable, guest_part, kind_of, planned_part}
+use Rattle.guest_view.specs.Guests.{GuestView, IsSoundTable, kind_of}
+use Rattle.guest_view.specs.Contents.{partition_of, planned_part}
 use Rattle.guest_view.specs.Partitions.{partitions_of}
 use Rattle.layout_plan.specs.declared.part.Kind.TheVariants.{Mbr}
 use Rattle.layout_plan.specs.declared.part.Placed.{Placed}
@@ -24,11 +25,11 @@ use Rattle.target_table.proofs.MbrRead.{read_as}
 
 -- what a guest with an MBR knows of itself and of a plan
 pub mbr_plan : (guest : GuestView) (mbr : MbrTable) (sectors : ℕ) (plan : Plan) → guest.table ≡ OfMbr mbr → IsSoundTable guest.sectors guest.table
-    → guest.parts ≡ map guest_part (partitions_of guest.table) → IsSource (kind_of guest.table) (map planned_part guest.parts) → (some : IsSomePlan guest sectors plan)
+    → map partition_of guest.parts ≡ partitions_of guest.table → IsSource (kind_of guest.table) (map planned_part guest.parts) → (some : IsSomePlan guest sectors plan)
     → IsMbrPlan guest.sectors sectors mbr guest.parts some.wishes some.layout plan
 mbr_plan guest mbr sectors plan same sound named source some =
     let Sound : Table → Type 0 = λ table. IsSoundTable guest.sectors table in
-    let Named : Table → Type 0 = λ table. guest.parts ≡ map guest_part (partitions_of table) in
+    let Named : Table → Type 0 = λ table. map partition_of guest.parts ≡ partitions_of table in
     let Source : Table → Type 0 = λ table. IsSource (kind_of table) (map planned_part guest.parts) in
     let Known : Table → Type 0 = λ table. IsGuestPlan (record { sectors = guest.sectors; table = table; parts = guest.parts }) some.wishes some.layout sectors plan in
     let entries = (subst Sound same sound).entries in

@@ -6,7 +6,7 @@ use Rattle.std.proofs.lemmas.Bool.Decides.{nat_tests}
 use Rattle.std.proofs.lemmas.List.{get_or_default}
 use Rattle.std.proofs.lemmas.List.Folds.{list_any_at}
 use Rattle.guest_view.specs.declared.guest.GuestPart.{GuestPart}
-use Rattle.guest_view.specs.Guests.{planned_part}
+use Rattle.guest_view.specs.Contents.{planned_part}
 use Rattle.layout_plan.specs.declared.part.Kind.TheVariants.{Mbr}
 use Rattle.layout_plan.specs.declared.part.Placed.{Placed}
 use Rattle.layout_plan.specs.declared.part.Role.TheVariants.{Slot as InSlot, Extended}

@@ -7,7 +7,8 @@ use Rattle.gpt_table.specs.Gpt.{entry_at, protective_bytes}
 use Rattle.guest_view.specs.declared.partition.Partition.{Partition}
 use Rattle.guest_view.specs.declared.table.Table.{Table}
 use Rattle.guest_view.specs.declared.table.Table.TheVariants.{Mbr, Gpt}
-use Rattle.guest_view.specs.Guests.{GuestView, IsTableOf, kind_of, planned_part}
+use Rattle.guest_view.specs.Guests.{GuestView, IsTableOf, kind_of}
+use Rattle.guest_view.specs.Contents.{planned_part}
 use Rattle.guest_view.specs.Partitions.{entry_partition, logical_partition, slot_partition}
 use Rattle.layout_plan.specs.declared.part.Kind.{Kind}
 use Rattle.layout_plan.specs.declared.part.Part.{Part}

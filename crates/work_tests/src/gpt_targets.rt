@@ -3,7 +3,7 @@
 ghost use Rattle.std.specs.Prelude.{◌≡◌, IfOk, length};
 ghost use Rattle.target_table.specs.Planned.{IsSomePlan};
 
-use crate::mbr_targets::{LAYOUT, parts_of};
+use crate::mbr_targets::LAYOUT;
 use disk_base::{ByteDisk, crc32, little_u32, little_u64};
 use gpt_table::{Entry, Gpt, gpt_entries, gpt_header, protective_sector};
 use guest_view::{Guest, InspectFault, inspect};
@@ -110,7 +110,7 @@ fn plan_of(alloc: Global, guest: &Guest) -> Result<Planned, NoPlan>
     ensures { IfOk result (IsSomePlan guest.now 131072) }
 {
     let kind = guest.table().kind();
-    let parts = parts_of(alloc, guest)?;
+    let parts = guest.parts_to_plan(alloc)?;
     let planned = plan(alloc, kind, parts.as_slice(), &[], &LAYOUT, TARGET)?;
     Ok(planned)
 }

@@ -1,12 +1,10 @@
 //! What is written for the target of an MBR, byte by byte.
 ghost use Rattle.std.specs.Prelude.{◌≡◌, IfOk, length};
-ghost use Rattle.guest_view.specs.Guests.{kind_of};
-ghost use Rattle.layout_plan.specs.Source.{IsSource};
-ghost use Rattle.target_table.specs.Planned.{IsSomePlan, parts_to_plan};
+ghost use Rattle.target_table.specs.Planned.{IsSomePlan};
 
 use disk_base::ByteDisk;
 use guest_view::{Guest, InspectFault, Table, inspect};
-use layout_plan::{Layout, NoPlan, Part, Planned, What, Wish, plan};
+use layout_plan::{Layout, NoPlan, Planned, What, Wish, plan};
 use std::alloc::{AllocError, Global};
 use std::test::Fail;
 use target_table::{TableSectors, table_for};
@@ -71,24 +69,12 @@ fn guest_with(alloc: Global, written: &[(u16, Entries)]) -> Result<Guest, Inspec
     inspect(alloc, &mut ByteDisk::new(image, SECTORS, None))
 }
 
-/// The partitions of a guest as a plan takes them.
-pub(crate) fn parts_of(alloc: Global, guest: &Guest) -> Result<Vec<Part>, AllocError>
-    ensures parts { IfOk result (λ parts. parts.items ≡ parts_to_plan guest.now) }
-    ensures source { IsSource (kind_of guest.now.table) (parts_to_plan guest.now) }
-{
-    let mut parts = Vec::new(alloc);
-    for part in guest.parts() {
-        parts.push(part.part())?;
-    }
-    Ok(parts)
-}
-
 /// The plan of a copy of a guest.
 fn plan_of(alloc: Global, guest: &Guest, wishes: &[Wish]) -> Result<Planned, NoPlan>
     ensures { IfOk result (λ planned. IsSomePlan guest.now 65536 planned) }
 {
     let kind = guest.table().kind();
-    let parts = parts_of(alloc, guest)?;
+    let parts = guest.parts_to_plan(alloc)?;
     let planned = plan(alloc, kind, parts.as_slice(), wishes, &LAYOUT, SECTORS)?;
     Ok(planned)
 }

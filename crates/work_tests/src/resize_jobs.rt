@@ -1,13 +1,13 @@
 ghost use Rattle.std.specs.Prelude.{◌≡◌, ◌*◌, ◌≤◌, IfOk, length};
 
 use disk_base::{MemDisk, MemLimits, MemSink};
-use guest_view::Why;
 use layout_plan::{Fate, Placed};
 use resize_core::*;
 use run_copy::Transfer;
 use run_end::{End, VolumeFault};
 use std::alloc::{AllocError, Global};
 use std::test::Fail;
+use volume_content::Why;
 use words::{Job, read_words};
 
 // That many sectors of bytes 75.

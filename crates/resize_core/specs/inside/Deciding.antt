@@ -1,5 +1,5 @@
 -- What the steps of deciding answer to each other.
-use Rattle.std.specs.Prelude.{◌≡◌, ℕ, ◌≤◌, List, All, AllPairs, Option, Some, None, slice_get}
+use Rattle.std.specs.Prelude.{◌≡◌, ℕ, ◌≤◌, true, false, List, All, AllPairs, Option, Some, None, slice_get}
 use Rattle.guest_view.specs.Guests.{GuestView, kind_of}
 use Rattle.run_copy.specs.Copies.{IsBetween, WriteApart}
 use Rattle.run_copy.specs.declared.transfer.Transfer.{Transfer}
@@ -16,7 +16,7 @@ use Rattle.words.specs.declared.job.Unknown.{Unknown}
 use Rattle.words.specs.declared.job.Unknown.TheVariants.{Error}
 use Rattle.resize_core.specs.declared.ready.Ready.{Ready}
 use Rattle.resize_core.specs.Contents.{head_for, transfers_of}
-use Rattle.resize_core.specs.Growth.{first_stuck, stuck_parts}
+use Rattle.resize_core.specs.Growth.{first_stuck, has_growth, stuck_parts}
 use Rattle.resize_core.specs.Resizing.{IsPlanFor, IsWithoutPlan}
 
 -- the plan of a job, with what is known of every plan
@@ -57,6 +57,7 @@ pub record IsReadyFor (job : ResizeJob) (guest : GuestView) (head : List ℕ) (s
   pub planned : IsPlannedFor job guest sectors ready.planned
   pub stuck : ready.stuck.items ≡ stuck_parts job.grow ready.planned guest.parts
   pub unstuck : job.unknown ≡ Error → first_stuck job.grow ready.planned guest.parts ≡ None
+  pub served : has_growth job.grow ready.planned guest.parts ≡ false
   pub made : IsMade job guest ready.planned head sectors ready.writing
 
 -- a content has to grow and can't, where that is an error
@@ -66,6 +67,13 @@ pub record IsStuckFor (job : ResizeJob) (guest : GuestView) (sectors : ℕ) (fau
   pub error : job.unknown ≡ Error
   pub first : first_stuck job.grow plan guest.parts ≡ Some fault
 
+-- a content has to grow
+pub record HasGrowthIn (job : ResizeJob) (guest : GuestView) (sectors : ℕ) : Type 0 where
+  pub plan : Plan
+  pub is_plan : IsPlanFor job guest sectors plan
+  pub unstuck : job.unknown ≡ Error → first_stuck job.grow plan guest.parts ≡ None
+  pub grows : has_growth job.grow plan guest.parts ≡ true
+
 -- why nothing is made ready
 abbrev pub IsRefusedFor : ResizeJob → GuestView → ℕ → Refusal → Type 0
 IsRefusedFor job guest sectors Memory = Unit {0}
@@ -73,4 +81,4 @@ IsRefusedFor job guest sectors (Unplanned fault) = IsWithoutPlan job guest secto
 IsRefusedFor job guest sectors (Source (Volume fault)) = IsStuckFor job guest sectors fault
 IsRefusedFor job guest sectors (Source (Guest fault)) = ⊥
 IsRefusedFor job guest sectors (Usage usage) = ⊥
-IsRefusedFor job guest sectors NotYet = ⊥
+IsRefusedFor job guest sectors NotYet = HasGrowthIn job guest sectors

@@ -1,5 +1,5 @@
 -- What the steps of a job answer to each other.
-use Rattle.std.specs.Prelude.{◌≡◌, ◌≢◌, ℕ, ◌⊎◌, List, [], ◌++◌, Option, Some, None, not, IsTrue, string_bytes}
+use Rattle.std.specs.Prelude.{◌≡◌, ◌≢◌, ℕ, false, ◌⊎◌, List, [], ◌++◌, Option, Some, None, not, IsTrue, string_bytes}
 use Rattle.disk_base.specs.declared.device.Blocks.{Ghosts as BlocksGhosts}
 use Rattle.disk_base.specs.declared.device.Disk.{Ghosts as DiskGhosts}
 use Rattle.disk_base.specs.declared.output.Sink.{Ghosts as SinkGhosts}
@@ -22,7 +22,7 @@ use Rattle.guest_view.specs.declared.fault.InspectFault.{InspectFault}
 use Rattle.guest_view.specs.declared.fault.InspectFault.TheVariants as guests
 use Rattle.words.specs.declared.job.Unknown.TheVariants.{Error}
 use Rattle.resize_core.specs.declared.job.Prepared.{Prepared}
-use Rattle.resize_core.specs.Growth.{first_stuck}
+use Rattle.resize_core.specs.Growth.{first_stuck, has_growth}
 use Rattle.run_end.specs.Ending.{Cause, EndLeaves, MayPass, Meaning, Prints}
 use Rattle.target_work.specs.Works.{HasNoTable, IsAtGate, IsDone, Work}
 use Rattle.words.specs.declared.job.ResizeJob.{ResizeJob}
@@ -51,6 +51,7 @@ pub record IsPrepared (job : ResizeJob) (guest : GuestView) (head : List ℕ) (s
   pub plan : Plan
   pub planned : IsPlannedFor job guest sectors plan
   pub unstuck : job.unknown ≡ Error → first_stuck job.grow plan guest.parts ≡ None
+  pub served : has_growth job.grow plan guest.parts ≡ false
   pub made : IsMade job guest plan head sectors prepared.writing
   pub summary : string_bytes prepared.lines.summary ≡ summary_text job guest plan
   pub last : string_bytes prepared.lines.last ≡ last_text job
