@@ -8,7 +8,7 @@ PROGRAM = crates/virt_top/out/virt_top
 # Proves and builds the program, and looks whether what was built answers: there is no disk `a`, which is status 5.
 build:
 	@command -v rt > /dev/null || { echo "make: there is no rt: README.md names the kit that is needed" >&2; exit 1; }
-	@echo "Proving and building the program. The first time this takes five to ten minutes, since every"
+	@echo "Proving and building the program. The first time this takes about half an hour, since every"
 	@echo "function is proved to meet its contract before it is compiled; build/build.log tells how far it is."
 	@mkdir -p build
 	@cd crates/virt_top && rt run -- virt-resize --dry-run a b > ../../build/build.log 2>&1; test $$? -eq 5 || { tail -n 20 ../../build/build.log; exit 1; }
