@@ -3,12 +3,13 @@ use Rattle.std.proofs.lemmas.Bool.{cases_lt, false≢true}
 use Rattle.std.proofs.lemmas.Bool.Decides.{Decides-eqb}
 use Rattle.std.proofs.lemmas.List.Elements.{All-cons}
 use Rattle.std.proofs.lemmas.List.{get_or_default}
-use Rattle.std.proofs.Common.{◌≡◌, ℕ, ◌+◌, ◌-◌, ◌*◌, ◌/◌, ◌<◌, ◌≤◌, min, suc, List, [], ◌∷◌, length, Bool, true, false, cond, ◌&&◌, ◌==◌, All, arith, refl, ◌∙◌, sym, ap, subst, inl, inr, slice_index_or, AllPairs}
+use Rattle.std.proofs.Common.{◌≡◌, ℕ, ◌+◌, ◌-◌, ◌*◌, ◌/◌, ◌<◌, ◌≤◌, min, suc, add-one, List, [], ◌∷◌, length, Bool, true, false, cond, ◌&&◌, ◌==◌, All, arith, refl, ◌∙◌, sym, ap, subst, inl, inr, slice_index_or, AllPairs}
 use Rattle.disk_base.specs.Image.{with_bytes, sector, AgreesOutside}
+use Rattle.disk_base.specs.Log.{Log}
 use Rattle.disk_base.proofs.Images.{agrees_refl, bytes_outside, agrees_with_bytes, length-bytes_at, sector_written, sector_before, sector_behind, sector_of_range}
 use Rattle.run_copy.specs.declared.transfer.Transfer.{Transfer}
-use Rattle.run_copy.specs.Copies.{all_zero, piece_of, is_left_out, due, IsOutside, IsCopied, AreCopied, OnlyWithin, WriteApart}
-use Rattle.run_copy.specs.inside.Puts.{put_of}
+use Rattle.run_copy.specs.Copies.{all_zero, piece_of, is_left_out, due, IsOutside, pieces_written, IsCopied, AreCopied, WritesAtMost, OnlyWithin, WriteApart}
+use Rattle.run_copy.specs.inside.Puts.{put_of, writes_of}
 
 both_of : (a b : Bool) → (a && b) ≡ true → (a ≡ true) × (b ≡ true)
 both_of true b is = (refl, is)
@@ -23,11 +24,12 @@ pub zero_list : (xs : List ℕ) → All (λ (byte : ℕ). byte ≡ 0) xs → all
 zero_list [] all = refl
 zero_list (x ∷ xs) all = ap (λ b. b && all_zero xs) ((Decides-eqb x 0).1 (all 0 0 (omega arith))) ∙ zero_list xs (λ k d h. all (suc k) d (omega arith))
 
--- what a loop over the target keeps: the source is only read, so much is done, and the target was used as it is said
-pub record Goes (reads within_count was_copied agrees uses stops : Type 0) : Type 0 where
+-- what a loop over the target keeps: the source is only read, so much is done by so few writes, and the target was used as it is said
+pub record Goes (reads within_count was_copied few agrees uses stops : Type 0) : Type 0 where
   pub read : reads
   pub bound : within_count
   pub copied : was_copied
+  pub writes : few
   pub others : agrees
   pub used : uses
   pub may_leave : stops
@@ -117,6 +119,12 @@ module _ (t : Transfer) (j : ℕ) (source old mid new : List ℕ)
     copied = piece_copied;
     others = piece_others;
   }
+
+-- one more piece takes one write more, or none
+pub writes_more : (source : List ℕ) (t : Transfer) (j : ℕ) (old mid new : Log)
+    → WritesAtMost (pieces_written source t j) old mid → WritesAtMost (writes_of t.sparse (piece_of source t j)) mid new
+    → WritesAtMost (pieces_written source t (j + 1)) old new
+writes_more source t j old mid new so_far now = rw add-one (omega arith)
 
 -- what stands for a transfer where there is none
 abbrev pub nothing : Transfer

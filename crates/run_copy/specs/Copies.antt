@@ -1,8 +1,10 @@
 -- Sectors that are copied from one disk to another.
-use Rattle.std.specs.Prelude.{◌≡◌, ℕ, ◌+◌, ◌-◌, ◌*◌, ◌/◌, ◌^◌, ◌<◌, ◌≤◌, ◌⊎◌, ◌==◌, ◌&&◌, Bool, if◌then◌else◌, min, List, length, slice_index_or, IsTrue}
+use Rattle.std.specs.Prelude.{◌≡◌, ℕ, zero, suc, ◌+◌, ◌-◌, ◌*◌, ◌/◌, ◌^◌, ◌<◌, ◌≤◌, ◌⊎◌, ◌==◌, ◌&&◌, Bool, if◌then◌else◌, min, List, length, slice_index_or, IsTrue}
 use Rattle.std.specs.List.{list_all}
 use Rattle.disk_base.specs.declared.device.Blocks.{Ghosts as BlocksGhosts}
+use Rattle.disk_base.specs.declared.device.Disk.{Ghosts as DiskGhosts}
 use Rattle.disk_base.specs.Image.{bytes_at, sector, AgreesOutside}
+use Rattle.disk_base.specs.Log.{Log}
 use Rattle.run_copy.specs.declared.transfer.Transfer.{Transfer}
 
 -- each byte is zero
@@ -16,6 +18,15 @@ piece_of source t j = bytes_at source (512 * (t.from + 2048 * j)) (512 * min 204
 -- whether the piece is left out: pieces of zeros are, and it is one
 abbrev pub is_left_out : List ℕ → Transfer → ℕ → Bool
 is_left_out source t j = t.sparse && all_zero (piece_of source t j)
+
+-- how many pieces the transfer has
+abbrev pub pieces_of : Transfer → ℕ
+pieces_of t = (t.count + 2047) / 2048
+
+-- how many of the first n pieces aren't left out
+abbrev pub pieces_written : List ℕ → Transfer → ℕ → ℕ
+pieces_written source t zero = 0
+pieces_written source t (suc j) = pieces_written source t j + (if is_left_out source t j then 0 else 1)
 
 -- what the target is to hold in the k-th sector of what is copied: what the source has there, or what it held where the
 -- sector's piece is left out
@@ -47,6 +58,15 @@ Copied s source t target target' transfer =
 abbrev pub AllCopied : {S T : Type 0} → BlocksGhosts S → S → BlocksGhosts T → T → T → List Transfer → Type 0
 AllCopied s source t target target' transfers =
     IsTrue s.tells → IsTrue t.tells → AreCopied transfers (length transfers) (s.image source) (t.image target) (t.image target')
+
+-- between these two states of its log the disk was written at most so often
+abbrev pub WritesAtMost : ℕ → Log → Log → Type 0
+WritesAtMost n old new = new.writes ≤ old.writes + n
+
+-- a call that was lent the two disks wrote at most once for each piece that isn't left out, where they tell what they hold
+abbrev pub CopyWrites : {S T : Type 0} → BlocksGhosts S → S → BlocksGhosts T → DiskGhosts T → T → T → Transfer → Type 0
+CopyWrites s source t disk target target' transfer =
+    IsTrue s.tells → IsTrue t.tells → WritesAtMost (pieces_written (s.image source) transfer (pieces_of transfer)) (disk.log target) (disk.log target')
 
 -- whatever was copied of it, nothing outside the transfer was changed
 abbrev pub OnlyIn : Transfer → List ℕ → List ℕ → Type 0

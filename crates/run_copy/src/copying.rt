@@ -5,8 +5,8 @@ ghost use Rattle.disk_base.specs.Faults.{Rose};
 ghost use Rattle.disk_base.specs.Image.{AgreesOutside};
 ghost use Rattle.disk_base.specs.Log.{IsWritable};
 ghost use Rattle.disk_base.specs.Stops.{Follows};
-ghost use Rattle.run_copy.specs.Copies.{AllCopied, Copied, IsBetween, OnlyIn, OnlyWithin, WriteApart, all_zero};
-ghost use Rattle.run_copy.specs.inside.Puts.{PutNext, put_of};
+ghost use Rattle.run_copy.specs.Copies.{AllCopied, Copied, CopyWrites, IsBetween, OnlyIn, OnlyWithin, WriteApart, WritesAtMost, all_zero};
+ghost use Rattle.run_copy.specs.inside.Puts.{PutNext, WritesNext, put_of, writes_of};
 
 use crate::transfer::Transfer;
 use disk_base::{Blocks, DeviceFault, Disk, Failed, SECTOR};
@@ -31,6 +31,7 @@ fn put_piece<T: Disk>(target: &mut T, at: u64, sparse: bool, piece: &[u8]) -> Re
     requires inside { 512 * at + length piece.now ≤ 512 * T.size target.old }
     requires writable { IsWritable (T.attached target.old) }
     ensures put { IsTrue T.tells → OnOk result (T.image target.new ≡ put_of sparse at piece.now (T.image target.old)) }
+    ensures writes { IsTrue T.tells → OnOk result (WritesAtMost (writes_of sparse piece.now) (T.log target.old) (T.log target.new)) }
     ensures others { IsTrue T.tells → AgreesOutside (512 * at) (length piece.now) (T.image target.old) (T.image target.new) }
     ensures stops { IsTrue T.tells_stops → Follows (AgreesOutside (512 * at) (length piece.now)) (T.stops target.old) (T.stops target.new) }
     ensures used { Used T.Blocks T.Disk.own target.old target.new }
@@ -57,6 +58,7 @@ fn copy_piece<S: Blocks, T: Disk>(
     requires writable { IsWritable (T.attached target.old) }
     ensures read { S.only_read source.old source.new }
     ensures put { OnOk result (PutNext S.Blocks source.old T.Blocks target.old target.new transfer.now number) }
+    ensures writes { OnOk result (WritesNext S.Blocks source.old T.Blocks T.Disk.own target.old target.new transfer.now number) }
     ensures within { IsTrue T.tells → OnlyIn transfer.now (T.image target.old) (T.image target.new) }
     ensures stops { IsTrue T.tells_stops → Follows (OnlyIn transfer.now) (T.stops target.old) (T.stops target.new) }
     ensures used { Used T.Blocks T.Disk.own target.old target.new }
@@ -77,7 +79,8 @@ fn copy_piece<S: Blocks, T: Disk>(
     Ok(())
 }
 
-/// Copies the sectors of a transfer. It takes no memory, and answers Ok wherever no disk failed.
+/// Copies the sectors of a transfer, with at most one write for each piece that isn't left out. It takes no memory, and
+/// answers Ok wherever no disk failed.
 pub fn copy_run<S: Blocks, T: Disk>(
     source: &mut S,
     target: &mut T,
@@ -89,6 +92,7 @@ pub fn copy_run<S: Blocks, T: Disk>(
     requires writable { IsWritable (T.attached target.old) }
     ensures read { S.only_read source.old source.new }
     ensures copied { OnOk result (Copied S.Blocks source.old T.Blocks target.old target.new transfer.now) }
+    ensures writes { OnOk result (CopyWrites S.Blocks source.old T.Blocks T.Disk.own target.old target.new transfer.now) }
     ensures within { IsTrue T.tells → OnlyIn transfer.now (T.image target.old) (T.image target.new) }
     ensures stops { IsTrue T.tells_stops → Follows (OnlyIn transfer.now) (T.stops target.old) (T.stops target.new) }
     ensures used { Used T.Blocks T.Disk.own target.old target.new }

@@ -39,6 +39,7 @@ loop-transfer-preserved g c =
           transfer_more transfers index nothing (g.S.Blocks.image c.args.source.now)
           (g.T.Blocks.image c.args.target.now) (g.T.Blocks.image c.loop-transfer.target) (g.T.Blocks.image c.copy_run.new.target)
           (before.copied s t) (subst Copied same (now.copied s t)) c.requires.apart (omega arith);
+      writes = tt;
       others = λ t. begun_within transfers index nothing _ _ _ (omega arith) (before.others t) (now.within t);
       used = used_on g.T.Blocks g.T.Disk _ _ _ before.used now.used;
       may_leave = λ t.

@@ -3,9 +3,9 @@ use Rattle.std.proofs.Common.{◌≡◌, ℕ, ◌+◌, ◌-◌, ◌*◌, ◌<◌
 use Rattle.disk_base.proofs.Images.{agrees_on}
 use Rattle.disk_base.proofs.Moments.{follows_on}
 use Rattle.disk_base.proofs.Uses.{used_on}
-use Rattle.run_copy.specs.Copies.{IsCopied, OnlyIn, piece_of}
-use Rattle.run_copy.specs.inside.Puts.{put_of}
-use Rattle.run_copy.proofs.Copies.{piece_more}
+use Rattle.run_copy.specs.Copies.{piece_of, IsCopied, WritesAtMost, OnlyIn}
+use Rattle.run_copy.specs.inside.Puts.{put_of, writes_of}
+use Rattle.run_copy.proofs.Copies.{piece_more, writes_more}
 use Rattle.run_copy.proofs.copying.copy_run.Goals as goal
 
 pub returns-in_err-copy_piece-clause-stops : goal.returns-in_err-copy_piece-clause-stops
@@ -40,6 +40,12 @@ loop-number-preserved g c =
           subst (λ n. Done n (g.T.Blocks.image c.copy_piece.new.target)) next
           (piece_more transfer number start first mid (g.T.Blocks.image c.copy_piece.new.target) so_far put some
           (omega (arith, source_whole, source_fits)) (omega (arith, target_whole, target_fits)));
+      writes = λ s t.
+          let source_same = g.met.S.Blocks.same_image _ _ before.read s in
+          let start = g.S.Blocks.image c.args.source.now in
+          let Writes : List ℕ → Type 0 = λ image. WritesAtMost (writes_of transfer.sparse (piece_of image transfer number)) (g.T.Disk.log c.loop-number.target) (g.T.Disk.log c.copy_piece.new.target) in
+          writes_more start transfer number (g.T.Disk.log c.args.target.now) (g.T.Disk.log c.loop-number.target) (g.T.Disk.log c.copy_piece.new.target)
+          (before.writes s t) (subst Writes source_same (now.writes s t));
       others = λ t. agrees_on _ _ _ _ _ (before.others t) (now.within t);
       used = used_on g.T.Blocks g.T.Disk _ _ _ before.used now.used;
       may_leave = λ t.
