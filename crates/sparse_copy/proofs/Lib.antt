@@ -1,0 +1,3 @@
+mod Gaps
+mod Walking
+mod Zeros
