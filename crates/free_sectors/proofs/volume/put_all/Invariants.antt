@@ -1,0 +1,6 @@
+use Rattle.disk_base.specs.Run.{IsIn}
+use Rattle.free_sectors.specs.inside.Adding.{Gathers, DoesItem, SomeBelow}
+use Rattle.free_sectors.proofs.volume.put_all.Given as goal
+
+abbrev pub invariant-loop-run : goal.invariant-loop-run
+invariant-loop-run l = Gathers l.initial.out l.out (SomeBelow l.run-index (DoesItem l.runs IsIn))
