@@ -17,8 +17,13 @@ const VOLUMES: [(usize, &[u8], bool, &str); 3] = [
     (215, &[0x0D], true, "1 unread Reflink needs 2100\n"),
 ];
 
-// The whole small volume, of 256 blocks, in a partition of 2100 sectors.
-fn volume_disk(alloc: Global, at: usize, bytes: &[u8], summed: bool) -> Result<Built, AllocError> {
+/// The whole small volume, of 256 blocks, in a partition of 2100 sectors, with some bytes of it changed.
+pub(crate) fn volume_disk(
+    alloc: Global,
+    at: usize,
+    bytes: &[u8],
+    summed: bool,
+) -> Result<Built, AllocError> {
     let mut volume = Built::whole(alloc)?;
     volume.put(at, bytes);
     if summed {

@@ -8,11 +8,11 @@ use std::test::Fail;
 
 // Two physical volumes of six and five extents of eight sectors, from sector 16 of each on: 16 + 6 * 8 = 64 sectors,
 // and 16 + 5 * 8 = 56. `root` has all of the first and two of the second, `swap` the last two of the second.
-const TEXT: &str =
+pub(crate) const TEXT: &str =
     "vg { seqno = 1 extent_size = 8 physical_volumes { pv0 { id = \"aaaaaa-aaaa-aaaa-aaaa-aaaa-aaaa-aaaaaa\" dev_size = 64 pe_start = 16 pe_count = 6 } pv1 { id = \"bbbbbb-bbbb-bbbb-bbbb-bbbb-bbbb-bbbbbb\" dev_size = 50 pe_start = 16 pe_count = 5 } } logical_volumes { root { segment_count = 2 segment1 { start_extent = 0 extent_count = 6 type = \"striped\" stripe_count = 1 stripes = [\"pv0\", 0] } segment2 { start_extent = 6 extent_count = 2 type = \"striped\" stripe_count = 1 stripes = [\"pv1\", 0] } } swap { segment_count = 1 segment1 { start_extent = 0 extent_count = 2 type = \"striped\" stripe_count = 1 stripes = [\"pv1\", 3] } } } }";
 
 // The table of a disk with both in slots, in partitions of 72 sectors.
-const PLAIN: [(u16, &[Slot]); 1] = [(0, &[(0x8E, 8, 72), (0x8E, 88, 72)])];
+pub(crate) const PLAIN: [(u16, &[Slot]); 1] = [(0, &[(0x8E, 8, 72), (0x8E, 88, 72)])];
 
 // What that disk is.
 const GROUPED: &str =
@@ -24,9 +24,9 @@ fn put_tables(disk: &mut Built, tables: &[(u16, &[Slot])]) {
     }
 }
 
-// A disk of 160 sectors with these tables and with both physical volumes, by their first sectors and their texts. A
-// swap area of two pages stands in the volume `swap`.
-fn group_disk(
+/// A disk of 160 sectors with these tables and with both physical volumes, by their first sectors and their texts. A
+/// swap area of two pages stands in the volume `swap`.
+pub(crate) fn group_disk(
     alloc: Global,
     tables: &[(u16, &[Slot])],
     members: [u16; 2],
@@ -91,7 +91,7 @@ fn second_half(bytes: &[u8]) -> &[u8] {
 
 // A disk of 2088 sectors with both, and with the whole small volume, of 2048 sectors, in `root`. The part of it that
 // stands in the second one ends with the disk.
-fn spread_disk(alloc: Global) -> Result<Built, AllocError> {
+pub(crate) fn spread_disk(alloc: Global) -> Result<Built, AllocError> {
     let volume = Built::whole(alloc)?.into_bytes();
     let mut disk = Built::new(alloc, 261)?;
     put_slots(&mut disk, 0, &[(0x8E, 8, 1040), (0x8E, 1048, 1040)]);
@@ -113,8 +113,8 @@ fn a_volume_of_xfs_is_read_across_members(rt: HostRuntime) -> Result<(), Fail> {
     Ok(())
 }
 
-// The text with a part of it changed.
-fn changed(alloc: Global, from: &str, to: &str) -> Result<String, Fail> {
+/// The text with a part of it changed.
+pub(crate) fn changed(alloc: Global, from: &str, to: &str) -> Result<String, Fail> {
     let parts = TEXT.split_once(from).ok_or("the text has it")?;
     let mut text = String::from_str(alloc, parts.0)?;
     text.push_str(to)?;

@@ -1,7 +1,8 @@
-//! Tests of what a guest is by the contents of its partitions.
+//! Tests of what a guest is by the contents of its partitions, and of what of its disk is free.
 //!
-//! It promises nothing, and nothing stands on it. It stands on guest_view, which it tests, on the crates whose types are
-//! in what guest_view answers, on gpt_table for a disk with a GPT, and on disk_fixtures.
+//! It promises nothing, and nothing stands on it. It stands on guest_view, volume_choice and free_sectors, which it
+//! tests, on the crates whose types are in what they answer, on words for jobs, on gpt_table for a disk with a GPT, and
+//! on disk_fixtures.
 #![tactic(auto)]
 
 #[cfg(test)]
@@ -10,6 +11,8 @@ mod alone;
 mod answers;
 #[cfg(test)]
 mod areas;
+#[cfg(test)]
+mod freed;
 #[cfg(test)]
 mod groups;
 #[cfg(test)]
