@@ -46,25 +46,32 @@ fn end_within(runs: &Runs, sectors: u64) -> bool
     true
 }
 
-// Copies a disk of four sectors without the free ones to a new one.
-fn copied(
-    alloc: Global,
-    source: &mut MemDisk,
-    target: &mut MemDisk,
-    free: &[u64],
-) -> Result<Result<(), DeviceFault>, AllocError> {
+// The set of those of the sectors that a disk of four has.
+fn set_of(alloc: Global, sectors: &[u64]) -> Runs {
     let mut runs = Runs::new(alloc);
-    for sector in free {
+    for sector in sectors {
         if *sector < 4 {
             let _ = runs.add(*sector, 1);
         }
     }
-    let attached = target.attach(NAME.as_bytes(), Mode::Create(4));
-    if attached.is_err() || source.sectors() != 4 || !end_within(&runs, 4) {
-        return Ok(Err(DeviceFault::Target));
+    runs
+}
+
+// Copies a disk of four sectors without the free ones to a new one.
+fn copied<S: Blocks, T: Disk>(
+    alloc: Global,
+    source: &mut S,
+    target: &mut T,
+    free: &Runs,
+) -> Result<Result<(), DeviceFault>, AllocError> {
+    if source.sectors() != 4 || !end_within(free, 4) {
+        return Ok(Err(DeviceFault::Source));
     }
     let mut buffer = filled(alloc, BUFFER)?;
-    Ok(copy_out(source, target, &runs, buffer.as_mut_slice()))
+    match target.attach(NAME.as_bytes(), Mode::Create(4)) {
+        Ok(()) => Ok(copy_out(source, target, free, buffer.as_mut_slice())),
+        Err(_) => Ok(Err(DeviceFault::Target)),
+    }
 }
 
 // The first byte of each sector.
@@ -90,7 +97,7 @@ fn free_sectors_are_left_out(rt: HostRuntime) -> Result<(), Fail> {
     for (row, (sectors, free, wanted)) in cases.iter().enumerate() {
         let mut source = disk(alloc, *sectors, &[])?;
         let mut target = disk(alloc, [0x5A; 4], &[])?;
-        let answer = copied(alloc, &mut source, &mut target, free)?;
+        let answer = copied(alloc, &mut source, &mut target, &set_of(alloc, free))?;
         assert_eq!(rt; answer, Ok(()), "row {row}");
         assert_eq!(rt; firsts(target.image()), *wanted, "row {row}");
     }
@@ -112,7 +119,7 @@ fn the_disk_that_failed_is_named(rt: HostRuntime) -> Result<(), Fail> {
     for (row, (reads, writes, wanted)) in cases.iter().enumerate() {
         let mut source = disk(alloc, [7, 5, 0, 0], reads)?;
         let mut target = disk(alloc, [0x5A; 4], writes)?;
-        let answer = copied(alloc, &mut source, &mut target, &[1])?;
+        let answer = copied(alloc, &mut source, &mut target, &set_of(alloc, &[1]))?;
         assert_eq!(rt; answer, *wanted, "row {row}");
     }
     Ok(())
