@@ -3,7 +3,7 @@ use disk_fixtures::{Header, Volume, made, resum};
 use std::process::Abort;
 use std::test::Fail;
 use xfs_super::{
-    Agf, Agi, Reason, Super, agf_of, agfl_entry, agfl_of, agi_of, super_of, used_entry, used_of,
+    Agf, Reason, Super, agf_of, agfl_entry, agfl_of, agi_of, super_of, used_entry, used_of,
 };
 
 const SECTORS: u64 = 819200;
@@ -46,20 +46,17 @@ fn changed(volume: &Volume, header: Header, group: u32, at: usize, bytes: &[u8])
     out
 }
 
-// The place of a header among those of its group.
-fn place_of(header: Header) -> u64 {
-    match header {
-        Header::Superblock => 0,
-        Header::Agf => 1,
-        Header::Agi => 2,
-        Header::Agfl => 3,
-    }
-}
-
 // Where the headers of the second group begin.
 fn second_sector(header: Header, large: bool) -> u64 {
-    let width = if large { 8 } else { 1 };
-    273072 + place_of(header) * width
+    match (header, large) {
+        (Header::Superblock, _) => 273072,
+        (Header::Agf, false) => 273073,
+        (Header::Agi, false) => 273074,
+        (Header::Agfl, false) => 273075,
+        (Header::Agf, true) => 273080,
+        (Header::Agi, true) => 273088,
+        (Header::Agfl, true) => 273096,
+    }
 }
 
 // Why a header of a group isn't answered.
@@ -80,78 +77,38 @@ fn refusal(
     }
 }
 
-// What xfs_db prints of the first AGF that mkfs.xfs made.
-fn is_agf_as_made(rt: &impl Abort, agf: &Agf, first: u32, free: u32) {
-    let trees = [agf.bno_root, agf.cnt_root, agf.bno_level, agf.cnt_level];
-    assert_eq!(rt; trees, [first, first + 1, 1, 1]);
-    let list = [agf.flfirst, agf.fllast, agf.flcount, agf.btreeblks];
-    assert_eq!(rt; list, [1, 4, 4, 0]);
-    let counts = [agf.seqno, agf.length, agf.freeblks, agf.longest];
-    assert_eq!(rt; counts, [0, 34134, free, 34110]);
-}
-
-// What it prints of the first AGI.
-fn is_agi_as_made(rt: &impl Abort, agi: &Agi, first: u32) {
-    let trees = [agi.root, agi.level, agi.free_root, agi.free_level];
-    assert_eq!(rt; trees, [first + 2, 1, first + 3, 1]);
-    let counts = [agi.count, agi.freecount, agi.newino, agi.dirino];
-    assert_eq!(rt; counts, [64, 61, 128, 0xFFFF_FFFF]);
-    assert_eq!(rt; [agi.iblocks, agi.fblocks], [1, 1]);
-    assert_eq!(rt; agi.unlinked, [0xFFFF_FFFF; 64]);
-}
-
-// The headers of the first group, whose trees begin at that block.
-fn reads_first_headers(rt: &impl Abort, large: bool, first: u32, free: u32) -> Result<(), Fail> {
-    assert!(rt; first < 100);
-    let geo = super_of(&made(Header::Superblock, large), SECTORS)?;
-    let size = geo.sectsize as usize;
-    is_agf_as_made(
-        rt,
-        &agf_of(&made(Header::Agf, large)[..size], &geo, 0)?,
-        first,
-        free,
-    );
-    is_agi_as_made(
-        rt,
-        &agi_of(&made(Header::Agi, large)[..size], &geo, 0)?,
-        first,
-    );
-    agfl_of(&made(Header::Agfl, large)[..size], &geo, 0)?;
-    Ok(())
-}
-
+// What xfs_db prints of the first group that mkfs.xfs made.
 #[test]
 fn reads_what_mkfs_made(rt: HostRuntime) -> Result<(), Fail> {
-    reads_first_headers(&rt, false, 1, 34117)?;
-    reads_first_headers(&rt, true, 4, 34114)
-}
-
-// A header passes at its own place, and one of another group doesn't.
-fn knows_header(rt: &impl Abort, volume: &Volume, header: Header, group: u32) -> Result<(), Fail> {
-    let geo = super_of(&volume.superblock(), SECTORS)?;
-    let width = if volume.large { 8 } else { 1 };
-    let sector = 273072 * u64::from(group) + place_of(header) * width;
-    let sound = volume.header(header, group);
-    assert_eq!(rt;
-        refusal(rt, &geo, header, group, &sound),
-        None,
-        "at {sector}"
-    );
-    let other = volume.header(header, group.wrapping_add(1));
-    let want = Some(Reason::Header { sector });
-    assert_eq!(rt;
-        refusal(rt, &geo, header, group, &other),
-        want,
-        "at {sector}"
-    );
-    Ok(())
-}
-
-fn knows_headers(rt: &impl Abort, volume: &Volume) -> Result<(), Fail> {
-    for group in 0..3 {
-        knows_header(rt, volume, Header::Agf, group)?;
-        knows_header(rt, volume, Header::Agi, group)?;
-        knows_header(rt, volume, Header::Agfl, group)?;
+    for (volume, first) in [(VOLUME, 1), (LARGE, 4)] {
+        let geo = super_of(&made(Header::Superblock, volume.large), SECTORS)?;
+        let bytes = made(Header::Agf, volume.large);
+        let agf = agf_of(&bytes[..geo.sectsize as usize], &geo, 0)?;
+        let trees = [agf.bno_root, agf.cnt_root, agf.bno_level, agf.cnt_level];
+        assert_eq!(rt; trees, [first, first + 1, 1, 1]);
+        let list = [agf.flfirst, agf.fllast, agf.flcount, agf.btreeblks];
+        assert_eq!(rt; list, [1, 4, 4, 0]);
+        let free = if volume.large { 34114 } else { 34117 };
+        assert_eq!(rt;
+            [agf.seqno, agf.length, agf.freeblks, agf.longest],
+            [0, 34134, free, 34110]
+        );
+        let bytes = made(Header::Agi, volume.large);
+        let agi = agi_of(&bytes[..geo.sectsize as usize], &geo, 0)?;
+        let trees = [agi.root, agi.level, agi.free_root, agi.free_level];
+        assert_eq!(rt; trees, [first + 2, 1, first + 3, 1]);
+        let counts = [
+            agi.count,
+            agi.freecount,
+            agi.newino,
+            agi.dirino,
+            agi.iblocks,
+            agi.fblocks,
+        ];
+        assert_eq!(rt; counts, [64, 61, 128, 0xFFFF_FFFF, 1, 1]);
+        assert_eq!(rt; agi.unlinked, [0xFFFF_FFFF; 64]);
+        let bytes = made(Header::Agfl, volume.large);
+        agfl_of(&bytes[..geo.sectsize as usize], &geo, 0)?;
     }
     Ok(())
 }
@@ -159,8 +116,29 @@ fn knows_headers(rt: &impl Abort, volume: &Volume) -> Result<(), Fail> {
 // Each header of each group stands where it stands, and no header of another group or kind passes there.
 #[test]
 fn knows_the_headers_of_each_group(rt: HostRuntime) -> Result<(), Fail> {
-    knows_headers(&rt, &VOLUME)?;
-    knows_headers(&rt, &LARGE)
+    let kinds = [(Header::Agf, 1), (Header::Agi, 2), (Header::Agfl, 3)];
+    for (volume, width) in [(VOLUME, 1), (LARGE, 8)] {
+        let geo = super_of(&volume.superblock(), SECTORS)?;
+        for (header, k) in kinds {
+            for (group, first) in [(0, 0), (1, 273072), (2, 546144)] {
+                let sector = first + k * width;
+                let sound = volume.header(header, group);
+                assert_eq!(rt;
+                    refusal(&rt, &geo, header, group, &sound),
+                    None,
+                    "at {sector}"
+                );
+                let other = volume.header(header, group + 1);
+                let want = Some(Reason::Header { sector });
+                assert_eq!(rt;
+                    refusal(&rt, &geo, header, group, &other),
+                    want,
+                    "at {sector}"
+                );
+            }
+        }
+    }
+    Ok(())
 }
 
 // Each field of a header that contradicts the superblock, and a wrong byte without its checksum.
